@@ -1,0 +1,107 @@
+//! The judge: makes the call of each case over filled buffers and tells what the library did.
+
+use std::io::{self, BufRead, Write};
+
+use crate::answer::{Answer, ROOM_WORDS};
+use crate::tools::case::{Case, Lent, MOST_ROOM_WORDS, MOST_TREE_WORDS};
+use crate::{check, read_afresh, update};
+
+const TREE_FILL: u32 = 2_779_096_485;
+const ROOM_FILL: u32 = 1_515_870_810;
+
+/// Judges all cases of the input; prints `input` and stops where it is malformed.
+pub fn judge_all(input: &mut impl BufRead, output: &mut impl Write) -> io::Result<()> {
+    let mut judge = Judge::new();
+    loop {
+        match Case::read(input) {
+            Ok(None) => return Ok(()),
+            Ok(Some(case)) => output.write_all(judge.lines_for(&case).as_bytes())?,
+            Err(_) => return output.write_all(b"input\n"),
+        }
+    }
+}
+
+/// The two buffers that cases are lent parts of.
+pub struct Judge {
+    tree: Vec<u32>,
+    room: Vec<u32>,
+}
+
+impl Judge {
+    pub fn new() -> Judge {
+        Judge { tree: vec![0; MOST_TREE_WORDS], room: vec![0; MOST_ROOM_WORDS] }
+    }
+
+    /// One line for a table, three for a reading or an update.
+    pub fn lines_for(&mut self, case: &Case) -> String {
+        match case {
+            Case::Table { table } => format!("{}\n", check(table).number()),
+            Case::Read { table, codes, first, lent } => {
+                self.told(*lent, |tree, room| read_afresh(table, codes, *first, tree, room))
+            }
+            Case::Update { table, row, edits, put, lent } => {
+                self.told(*lent, |tree, room| update(table, row, edits, put, tree, room))
+            }
+        }
+    }
+
+    fn told(&mut self, lent: Lent, call: impl FnOnce(&mut [u32], &mut [u32]) -> Answer) -> String {
+        let tree = &mut self.tree[..lent.tree];
+        let room = &mut self.room[..lent.room];
+        tree.fill(TREE_FILL);
+        room.fill(ROOM_FILL);
+        let answer = call(tree, room);
+        three_lines(&answer, &tree_line(&answer, tree), room_line(room))
+    }
+}
+
+impl Default for Judge {
+    fn default() -> Judge {
+        Judge::new()
+    }
+}
+
+/// The answer in decimal, then the lines on tree and room.
+pub fn three_lines(answer: &Answer, tree: &str, room: &str) -> String {
+    let [left, right, whole, token, reductions] = answer.counts.in_order();
+    let (number, place) = (answer.number, answer.place);
+    format!("{number} {place} {left} {right} {whole} {token} {reductions}\n{tree}\n{room}\n")
+}
+
+/// The line for a tree's written words.
+pub fn written_line(words: &[u32]) -> String {
+    let mut line = String::from("tree");
+    for word in words {
+        line.push(' ');
+        line.push_str(&word.to_string());
+    }
+    line
+}
+
+fn tree_line(answer: &Answer, tree: &[u32]) -> String {
+    let written = match answer.number {
+        0 => 2 + 3 * tree[0] as usize,
+        _ => 0,
+    };
+    let as_lent = |part: &[u32]| part.iter().all(|&word| word == TREE_FILL);
+    match tree.get(written..) {
+        Some(rest) if as_lent(rest) && written == 0 => "tree as lent".to_string(),
+        Some(rest) if as_lent(rest) => written_line(&tree[..written]),
+        _ => "tree touched".to_string(),
+    }
+}
+
+fn room_line(room: &[u32]) -> &'static str {
+    let as_lent = |part: &[u32]| part.iter().all(|&word| word == ROOM_FILL);
+    if as_lent(room) {
+        return "room as lent";
+    }
+    let zeroed = room.len() >= ROOM_WORDS
+        && room[..ROOM_WORDS].iter().all(|&word| word == 0)
+        && as_lent(&room[ROOM_WORDS..]);
+    if zeroed {
+        "room zero"
+    } else {
+        "room touched"
+    }
+}

@@ -1,0 +1,161 @@
+//! Changes to a table that keep the conditions: larger sets, other orders, copies of states; and some
+//! that break condition 1, 6 or 7 alone at times.
+
+use std::collections::BTreeMap;
+
+use crate::grammar::First;
+use crate::set::TerminalSet;
+use crate::sheet::END;
+use crate::tools::make::asked_by;
+use crate::tools::plan::{Plan, State};
+use crate::tools::random::Random;
+
+/// Tries some larger lookahead sets; each is kept where no conflict follows.
+pub fn enlarge_sets(plan: &mut Plan, random: &mut Random) {
+    let first = First::of(&plan.grammar.productions);
+    for _ in 0..random.between(1, 6) {
+        let state = random.below(plan.states.len());
+        let items: Vec<(u8, u8)> = plan.states[state].items.keys().copied().collect();
+        let item = *random.pick(&items);
+        let terminal = random.below(plan.grammar.terminals) as u8;
+        let mut larger = plan.clone();
+        let set = TerminalSet::one(terminal);
+        if add(&mut larger, &first, state, item, set) && larger.actions().is_some() {
+            *plan = larger;
+        }
+    }
+}
+
+/// Tries to add an item (p,0) that no chain leads to, and what conditions 2 and 3 ask for with it.
+pub fn add_unled_item(plan: &mut Plan, random: &mut Random) {
+    let first = First::of(&plan.grammar.productions);
+    for _ in 0..8 {
+        let state = random.below(plan.states.len());
+        let item = (random.below(plan.grammar.productions.len()) as u8, 0);
+        let set = TerminalSet::one(random.below(plan.grammar.terminals) as u8);
+        let mut larger = plan.clone();
+        let is_new = !plan.states[state].items.contains_key(&item);
+        if is_new && add(&mut larger, &first, state, item, set) && larger.actions().is_some() {
+            *plan = larger;
+            return;
+        }
+    }
+}
+
+/// Adds lookaheads to an item and to all that conditions 2 and 3 ask for; false where production 0
+/// would get other lookaheads than the end mark, or a transition is missing.
+fn add(plan: &mut Plan, first: &First, state: usize, item: (u8, u8), set: TerminalSet) -> bool {
+    let mut open = vec![(state, item, set)];
+    while let Some((state, item, set)) = open.pop() {
+        if item.0 == 0 && set != TerminalSet::one(END) {
+            return false;
+        }
+        let held = plan.states[state].items.entry(item).or_insert(TerminalSet::EMPTY);
+        if set.within(*held) {
+            continue;
+        }
+        *held = held.join(set);
+        let asked = asked_by(&plan.grammar, first, item, set);
+        open.extend(asked.into_iter().map(|(item, set)| (state, item, set)));
+        if let Some(symbol) = plan.grammar.after(item) {
+            let Some(&target) = plan.states[state].transitions.get(&symbol) else {
+                return false;
+            };
+            open.push((target, (item.0, item.1 + 1), set));
+        }
+    }
+    true
+}
+
+/// Gives the states after 0 other numbers.
+pub fn permute_states(plan: &mut Plan, random: &mut Random) {
+    let new_numbers = permutation(plan.states.len(), random);
+    let mut states = vec![State::default(); plan.states.len()];
+    for (number, mut state) in std::mem::take(&mut plan.states).into_iter().enumerate() {
+        state.transitions.values_mut().for_each(|target| *target = new_numbers[*target]);
+        states[new_numbers[number]] = state;
+    }
+    plan.states = states;
+}
+
+/// Gives the productions after 0 other numbers.
+pub fn permute_productions(plan: &mut Plan, random: &mut Random) {
+    let new_numbers = permutation(plan.grammar.productions.len(), random);
+    let old = plan.grammar.productions.clone();
+    for (number, rule) in old.into_iter().enumerate() {
+        plan.grammar.productions[new_numbers[number]] = rule;
+    }
+    for state in &mut plan.states {
+        let items = std::mem::take(&mut state.items).into_iter();
+        let renamed =
+            items.map(|((rule, dot), set)| ((new_numbers[rule as usize] as u8, dot), set));
+        state.items = renamed.collect::<BTreeMap<_, _>>();
+    }
+}
+
+/// Numbers below `count` in some order, 0 in its place.
+fn permutation(count: usize, random: &mut Random) -> Vec<usize> {
+    let mut numbers: Vec<usize> = (0..count).collect();
+    random.shuffle(&mut numbers[1..]);
+    numbers
+}
+
+/// Copies a state after 0 behind the others and leads some of the transitions into it to the copy.
+pub fn copy_state(plan: &mut Plan, random: &mut Random) {
+    let original = random.between(1, plan.states.len() - 1);
+    let copy = plan.states.len();
+    let percent = *random.pick(&[0, 30, 100]);
+    plan.states.push(plan.states[original].clone());
+    for state in &mut plan.states {
+        for target in state.transitions.values_mut().filter(|target| **target == original) {
+            if random.chance(percent) {
+                *target = copy;
+            }
+        }
+    }
+}
+
+/// Copies a state after 0 behind the others, where nothing leads to it, without one of its items:
+/// where there is one, an item with a dot above 0 whose next symbol is also another item's.
+pub fn copy_without_item(plan: &mut Plan, random: &mut Random) {
+    let mut items: Vec<(usize, (u8, u8))> = Vec::new();
+    for (number, state) in plan.states.iter().enumerate().skip(1) {
+        let shared = state.items.keys().filter(|item| {
+            let same =
+                |other: &&(u8, u8)| plan.grammar.after(**other) == plan.grammar.after(**item);
+            item.1 > 0
+                && plan.grammar.after(**item).is_some()
+                && state.items.keys().filter(same).count() > 1
+        });
+        items.extend(shared.map(|&item| (number, item)));
+    }
+    if items.is_empty() || random.chance(20) {
+        let number = random.between(1, plan.states.len() - 1);
+        items = plan.states[number].items.keys().map(|&item| (number, item)).collect();
+    }
+    let (number, item) = *random.pick(&items);
+    let mut copy = plan.states[number].clone();
+    copy.items.remove(&item);
+    plan.states.push(copy);
+}
+
+/// Copies state 0 behind the others, where nothing leads to it.
+pub fn copy_state_0(plan: &mut Plan) {
+    plan.states.push(plan.states[0].clone());
+}
+
+/// Copies states until there are 200, or about 2,400 items: at times one too many of either.
+pub fn copy_to_limits(plan: &mut Plan, random: &mut Random) {
+    let over = random.below(2);
+    while plan.states.len() < 200 {
+        let room = (2400 + over).saturating_sub(plan.item_count());
+        let fitting = (1..plan.states.len()).filter(|&n| plan.states[n].items.len() <= room);
+        let fitting: Vec<usize> = fitting.collect();
+        if fitting.is_empty() {
+            return;
+        }
+        let largest = fitting.iter().copied().max_by_key(|&n| plan.states[n].items.len());
+        let chosen = if random.chance(70) { largest.unwrap_or(1) } else { *random.pick(&fitting) };
+        plan.states.push(plan.states[chosen].clone());
+    }
+}
