@@ -1,0 +1,2 @@
+-- What the answers of the code stand for.
+pub mod Values
