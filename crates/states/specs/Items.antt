@@ -121,10 +121,12 @@ module _ {t : List ℕ} {s at n : ℕ} (l : Lies t s at n) (i : ℕ) (h : i < n)
   pub three-goes : {b : Bool} {x u p d y : ℕ} → After t s i x → (u ≡ 255 → ⊥)
       → u ≡ target t s x → p ≡ prod t s i → d ≡ dot t s i → y ≡ ahead t s i → Says b (Covers t u p (d + 1) y) → Says b (Condition3At t s i)
   three-goes r g eu ep ed ey z = says-as z
-      (λ f. record { moves = λ a ha k m. rw (r .is) (
-        (λ q. g (eu ∙ q)),
-        (let w = f a (subst⁻¹ (λ (y : ℕ). Holds y a) ey k) in rw (eu, ep, ed) at w),
-      ) })
+      (λ f. record {
+        moves = λ a ha k m. rw (r .is) (
+          (λ q. g (eu ∙ q)),
+          (let w = f a (subst⁻¹ (λ (y : ℕ). Holds y a) ey k) in rw (eu, ep, ed) at w),
+        );
+      })
       (λ f a k.
       let o = subst (λ (y : ℕ). Holds y a) ey k in
       let w = f .moves a (known a o) o (r .inner) .1 in

@@ -10,17 +10,17 @@ after-at-requires : tie.Need-after-at-requires
 after-at-requires c κs = search needs
 
 returns : tie.Need-returns
-returns c = 
+returns c =
     let b = c .before .before .before in
     three-done (b .pre .0 .0) (b .args .i) (b .pre .0 .1) (c .before .after-at .ensures .shut (c .if1 .taken))
 
 target-requires : tie.Need-target-requires
-target-requires c κs = 
+target-requires c κs =
     let b = c .before .before .before in
     (b .pre .0 .0 .laid, b .pre .0 .0 .state, after-exists (b .pre .0 .0) (b .args .i) (b .pre .0 .1) (c .before .after-at .ensures .stands (c .if1 .left)))
 
 returns-2 : tie.Need-returns-2
-returns-2 c = 
+returns-2 c =
     let b = c .before .before .before .before .before in
     three-stuck (b .pre .0 .0) (b .args .i) (b .pre .0 .1) (c .before .before .before .after-at .ensures .stands (c .before .before .if1 .left)) (sym (c .before .target .ensures .is) ∙ c .if2 .taken)
 
@@ -42,7 +42,7 @@ ahead-of-requires : tie.Need-ahead-of-requires
 ahead-of-requires c κs = search needs
 
 covers-requires : tie.Need-covers-requires
-covers-requires c κs = 
+covers-requires c κs =
     let b = c .before .before .before .before .before .before .before .before .before in
     let o = some-ahead (b .pre .0 .0) (b .args .i) (b .pre .0 .1) in
     let e = c .ahead-of .ensures in
@@ -50,7 +50,7 @@ covers-requires c κs =
     ((b .pre .0 .0 .laid, u, c .before .place-of .ensures), (search needs, search needs, omega arith))
 
 returns-3 : tie.Need-returns-3
-returns-3 c = 
+returns-3 c =
     let b = c .before .before .before .before .before .before .before .before .before .before in
     three-goes (b .pre .0 .0) (b .args .i) (b .pre .0 .1) (c .before .before .before .before .before .before .before .before .after-at .ensures .stands (c .before .before .before .before .before .before .before .if1 .left)) (c .before .before .before .before .before .if2 .left) (c .before .before .before .before .before .before .target .ensures .is)
     (c .before .before .before .before .prod-of .ensures .0) (c .before .before .before .dot-of .ensures .0) (c .before .ahead-of .ensures) (c .covers .ensures)
