@@ -1,16 +1,14 @@
 // Runs cases from standard input until its end and prints what the library did. A number is four bytes, high first. A case of kind
 // T is the letter, the table's length and the table's bytes; it prints the answer on one line: 0 for yes, or the refusal's number.
 // Malformed input prints `input` and stops.
+ghost use mathlib.Core.Path.{_≡_};
+ghost use lib.ListN.{length};
 use table::Check;
 
 // A number of the input, or that the input broke off.
 enum Got {
     Number(usize),
     Broken,
-}
-
-fn wide(x: u8) -> usize {
-    x as usize
 }
 
 // Four bytes, high first.
@@ -20,7 +18,12 @@ fn read_number() -> Got {
     if n < 4 {
         return Got::Broken;
     }
-    Got::Number(wide(b[0]) * 16777216 + wide(b[1]) * 65536 + wide(b[2]) * 256 + wide(b[3]))
+    Got::Number(
+        sheet::wide(b[0]) * 16777216
+            + sheet::wide(b[1]) * 65536
+            + sheet::wide(b[2]) * 256
+            + sheet::wide(b[3]),
+    )
 }
 
 // One number on a line of its own.
@@ -45,8 +48,25 @@ fn tell(c: Check) -> bool {
     }
 }
 
+// 66,000 zeros, more than any table that is taken has bytes.
+fn buffer() -> [u8; 66000]
+    ensures { λ r. ⌜ 66000 ≡ length r ⌝ }
+{
+    [0; 66000]
+}
+
+// The table's bytes read into a row as long as they are, and checked.
+fn check_bytes(table: &mut [u8]) -> bool {
+    let got = io::read_full(0, table);
+    if got < table.len() {
+        return malformed();
+    }
+    tell(table::check_table(table))
+}
+
 // A case of kind T: at most 66,000 bytes of table.
-fn check_case(table: &mut [u8; 66000]) -> bool {
+fn check_case() -> bool {
+    let mut table = buffer();
     let g = read_number();
     match g {
         Got::Broken => malformed(),
@@ -54,38 +74,33 @@ fn check_case(table: &mut [u8; 66000]) -> bool {
             if n > 66000 {
                 return malformed();
             }
-            let got = io::read_full(0, &mut table[..n]);
-            if got < n {
-                return malformed();
-            }
-            tell(table::check_table(&table[..n]))
+            check_bytes(&mut table[..n])
         }
     }
 }
 
 // One case, and whether to go on: the end of the input stops the run.
-fn one(table: &mut [u8; 66000]) -> bool {
+fn one() -> bool {
     let mut kind = [0u8; 1];
     let n = io::read_full(0, &mut kind);
     if n == 0 {
         return false;
     }
     if kind[0] == b'T' {
-        check_case(table)
+        check_case()
     } else {
         malformed()
     }
 }
 
 // A proved loop has to end, and nothing says that the input does: it counts down from a number that no run uses up.
-fn all(table: &mut [u8; 66000]) {
+fn all() {
     let mut cases = u64::MAX;
-    while cases > 0 && one(table) {
+    while cases > 0 && one() {
         cases -= 1;
     }
 }
 
 fn main() {
-    let mut table = [0u8; 66000];
-    all(&mut table);
+    all();
 }
