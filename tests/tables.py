@@ -11,9 +11,9 @@ judge = os.path.join(here, "target", "bin", "judge")
 passed = failed = 0
 
 
-def told(tables):
-    """The judge's answers, a number a table."""
-    cases = b"".join(b"T" + struct.pack(">I", len(t)) + t for t in tables)
+def told(tables, kind=b"T"):
+    """The judge's answers: a number a table, or of kind C three where it is 4."""
+    cases = b"".join(kind + struct.pack(">I", len(t)) + t for t in tables)
     run = subprocess.run([judge], input=cases, capture_output=True)
     return [int(line) for line in run.stdout.split()]
 
@@ -136,5 +136,16 @@ for v in vectors:
     if len(broken) == 1:
         alone.setdefault(broken[0], bytes.fromhex(v["table"]))
 expect("one condition broken alone, 1 to 7", [alone[k] for k in range(1, 8)], [4] * 7)
+named = [told([alone[k]], b"C") for k in range(1, 8)]
+good = [k for k in range(1, 8) if named[k - 1][:2] == [4, k]]
+passed, failed = passed + len(good), failed + 7 - len(good)
+print(f"the condition that the refusal names: {[n[1:2] for n in named]}, {len(good)} of 7")
+
+# the stored vectors that break conditions: the one named is one of them
+broken = [v for v in vectors if v["expect"]["no"] == 4 and "conditions" in v["expect"]]
+names = told([bytes.fromhex(v["table"]) for v in broken], b"C")[1::3]
+good = sum(n in v["expect"]["conditions"] for n, v in zip(names, broken))
+passed, failed = passed + good, failed + len(broken) - good
+print(f"stored vectors whose named condition is broken: {good} of {len(broken)}")
 print(f"{passed} passed, {failed} failed")
 sys.exit(1 if failed else 0)

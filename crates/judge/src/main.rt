@@ -1,5 +1,6 @@
 // Runs cases from standard input until its end and prints what the library did. A number is four bytes, high first. A case of kind
 // T is the letter, the table's length and the table's bytes; it prints the answer on one line: 0 for yes, or the refusal's number.
+// Kind C is the same, and refusal 4 is followed by the broken condition and the state where it is broken, each on its line.
 // Malformed input prints `input` and stops.
 ghost use mathlib.Core.Path.{_≡_};
 ghost use lib.ListN.{length};
@@ -38,13 +39,24 @@ fn malformed() -> bool {
     false
 }
 
+// Refusal 4, and if it is asked for the condition and the state.
+fn tell_states(named: bool, c: u8, s: usize) -> bool {
+    if named {
+        print_line(4);
+        print_line(c as u64);
+        print_line(s as u64)
+    } else {
+        print_line(4)
+    }
+}
+
 // The answer's number on a line.
-fn tell(c: Check) -> bool {
+fn tell(named: bool, c: Check) -> bool {
     match c {
         Check::Yes => print_line(0),
         Check::Layout => print_line(2),
         Check::Grammar => print_line(3),
-        Check::States => print_line(4),
+        Check::States(k, s) => tell_states(named, k, s),
     }
 }
 
@@ -56,16 +68,16 @@ fn buffer() -> [u8; 66000]
 }
 
 // The table's bytes read into a row as long as they are, and checked.
-fn check_bytes(table: &mut [u8]) -> bool {
+fn check_bytes(named: bool, table: &mut [u8]) -> bool {
     let got = io::read_full(0, table);
     if got < table.len() {
         return malformed();
     }
-    tell(table::check_table(table))
+    tell(named, table::check_table(table))
 }
 
-// A case of kind T: at most 66,000 bytes of table.
-fn check_case() -> bool {
+// A case of kind T or C: at most 66,000 bytes of table.
+fn check_case(named: bool) -> bool {
     let mut table = buffer();
     let g = read_number();
     match g {
@@ -74,7 +86,7 @@ fn check_case() -> bool {
             if n > 66000 {
                 return malformed();
             }
-            check_bytes(&mut table[..n])
+            check_bytes(named, &mut table[..n])
         }
     }
 }
@@ -87,7 +99,9 @@ fn one() -> bool {
         return false;
     }
     if kind[0] == b'T' {
-        check_case()
+        check_case(false)
+    } else if kind[0] == b'C' {
+        check_case(true)
     } else {
         malformed()
     }

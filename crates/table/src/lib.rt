@@ -18,7 +18,7 @@ ghost use Rattle.table.specs.Lent.{Lent, Begun};
 ghost use Rattle.table.specs.Needs.{Side, Needed, Needs, Met, Condition2At};
 ghost use Rattle.table.specs.Codes.{Tells, Moves, Into, Condition6From, Kept, BrokenAt};
 ghost use Rattle.table.specs.Search.{Searched};
-ghost use Rattle.table.specs.Answer.{number};
+ghost use Rattle.table.specs.Answer.{number, Named};
 use terminals::Terminals;
 
 // ---- condition 2
@@ -411,14 +411,15 @@ pub enum Check {
     Layout,
     // 3: the grammar breaks a rule
     Grammar,
-    // 4: a state condition is broken
-    States,
+    // 4: a state condition is broken; which of the seven, and at which state
+    States(u8, usize),
 }
 
 // Is the table taken, and if not, which refusal is it?
 pub fn check_table(table: &[u8]) -> Check
     ensures { λ r. ⌜ number r ≡ check (now (table .entry)) ⌝ }
     ensures { λ r. ⌜ Checks (now (table .entry)) (number r) ⌝ }
+    ensures { λ r. ⌜ Named (now (table .entry)) r ⌝ }
 {
     if !layout::laid_out(table) {
         return Check::Layout;
@@ -435,6 +436,6 @@ pub fn check_table(table: &[u8]) -> Check
     let found = first_broken(table, &starts, &rows, &lens, &lefts, &firsts, nullable);
     match found {
         Broken::Nothing => Check::Yes,
-        Broken::At(_, _) => Check::States,
+        Broken::At(c, s) => Check::States(c, s),
     }
 }

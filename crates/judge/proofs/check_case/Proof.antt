@@ -12,51 +12,39 @@ use Rattle.judge.proofs.check_bytes.Reads as check-bytes-reads
 use Rattle.judge.proofs.malformed.Reads as malformed-reads
 use Rattle.judge.proofs.read_number.Reads as read-number-reads
 
--- src/main.rt:69:21
 buffer-requires : tie.Need-buffer-requires
 buffer-requires c κs = search needs
 
--- src/main.rt:70:9
 read-number-requires : tie.Need-read-number-requires
 read-number-requires c κs = search needs
 
--- src/main.rt:72:24
 enum-told : tie.Need-enum-told
 enum-told c = search needs
 
--- src/main.rt:72:24
 malformed-requires : tie.Need-malformed-requires
 malformed-requires c κs = search needs
 
--- src/main.rt:73:21
 enum-known-g : tie.Need-enum-known-g
 enum-known-g c = search needs
 
--- src/main.rt:75:17
 malformed-requires-2 : tie.Need-malformed-requires-2
 malformed-requires-2 c κs = search needs
 
--- src/main.rt:75:17
 returns : tie.Need-returns
 returns c = search needs
 
--- src/main.rt:77:25
 array-borrow-prefix-table : tie.Need-array-borrow-prefix-table
 array-borrow-prefix-table c = search needs
 
--- src/main.rt:77:25
 slice-aggregate-check-bytes : tie.Need-slice-aggregate-check-bytes
 slice-aggregate-check-bytes c = sym (length-take-le _ _ (omega (arith, c .before .before .before .before .before .before .buffer .ensures)))
 
--- src/main.rt:77:13
 check-bytes-requires : tie.Need-check-bytes-requires
 check-bytes-requires c κs = search needs
 
--- src/main.rt:68:1
 returns-2 : tie.Need-returns-2
 returns-2 c = search needs
 
--- src/main.rt:68:1
 returns-3 : tie.Need-returns-3
 returns-3 c = search needs
 

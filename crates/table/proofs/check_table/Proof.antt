@@ -12,7 +12,7 @@ laid-out-requires c κs = search needs
 returns : tie.Need-returns
 returns c =
     let a = answers-2 (refused (c .before .laid-out .ensures) (not-true _ (c .if1 .taken))) in
-    (a .is, a .tells)
+    (a .is, (a .tells, a .names))
 
 rows-of-requires : tie.Need-rows-of-requires
 rows-of-requires c κs = c .before .laid-out .ensures .to (not-false _ (c .if1 .left))
@@ -29,7 +29,7 @@ rules-kept-requires c κs = (record { layout = c .before .before .before .before
 returns-2 : tie.Need-returns-2
 returns-2 c =
     let a = answers-3 (c .before .before .before .before .before .before .before .before .before .laid-out .ensures .to (not-false _ (c .before .before .before .before .before .before .before .before .if1 .left))) (refused (c .before .rules-kept .ensures) (not-true _ (c .if2 .taken))) in
-    (a .is, a .tells)
+    (a .is, (a .tells, a .names))
 
 nullable-requires : tie.Need-nullable-requires
 nullable-requires c κs = (record { layout = c .before .before .before .before .before .before .before .before .before .before .before .before .laid-out .ensures .to (not-false _ (c .before .before .before .before .before .before .before .before .before .before .before .if1 .left)); symbols = c .before .before .before .before .before .before .before .before .before .before .rows-of .ensures; lengths = c .before .before .before .before .before .before .before .before .before .lens-of .ensures }, c .before .before .before .before .before .before .before .before .lefts-of .ensures)
@@ -52,18 +52,18 @@ first-broken-requires c κs = (
 enum-told : tie.Need-enum-told
 enum-told c = search needs
 
-enum-told-2 : tie.Need-enum-told-2
-enum-told-2 c = search needs
+enum-known-found : tie.Need-enum-known-found
+enum-known-found c = search needs
 
 returns-3 : tie.Need-returns-3
 returns-3 c =
     let a = answers-0 (c .before .before .before .before .before .before .before .before .before .before .before .before .before .before .before .before .before .before .before .before .before .before .before .before .before .before .laid-out .ensures .to (not-false _ (c .before .before .before .before .before .before .before .before .before .before .before .before .before .before .before .before .before .before .before .before .before .before .before .before .before .if1 .left))) (c .before .before .before .before .before .before .before .before .before .before .before .before .before .before .before .before .before .before .rules-kept .ensures .to (not-false _ (c .before .before .before .before .before .before .before .before .before .before .before .before .before .before .before .before .before .if2 .left))) _ (c .before .before .first-broken .ensures) (c .enum-told .given .1) in
-    (a .is, a .tells)
+    (a .is, (a .tells, a .names))
 
 returns-4 : tie.Need-returns-4
 returns-4 c =
-    let a = answers-4 (c .before .before .before .before .before .before .before .before .before .before .before .before .before .before .before .before .before .before .before .before .before .before .before .before .before .before .laid-out .ensures .to (not-false _ (c .before .before .before .before .before .before .before .before .before .before .before .before .before .before .before .before .before .before .before .before .before .before .before .before .before .if1 .left))) (c .before .before .before .before .before .before .before .before .before .before .before .before .before .before .before .before .before .before .rules-kept .ensures .to (not-false _ (c .before .before .before .before .before .before .before .before .before .before .before .before .before .before .before .before .before .if2 .left))) _ _ _ (c .before .before .first-broken .ensures) (c .enum-told2 .given .1) in
-    (a .is, a .tells)
+    let a = answers-4 (c .before .before .before .before .before .before .before .before .before .before .before .before .before .before .before .before .before .before .before .before .before .before .before .before .before .before .before .laid-out .ensures .to (not-false _ (c .before .before .before .before .before .before .before .before .before .before .before .before .before .before .before .before .before .before .before .before .before .before .before .before .before .before .if1 .left))) (c .before .before .before .before .before .before .before .before .before .before .before .before .before .before .before .before .before .before .before .rules-kept .ensures .to (not-false _ (c .before .before .before .before .before .before .before .before .before .before .before .before .before .before .before .before .before .before .if2 .left))) _ _ _ (c .before .before .before .first-broken .ensures) (c .before .found .given .1) in
+    (a .is, (a .tells, a .names))
 
 pub check-table-spec : {M : Type 1} → statement M
 check-table-spec =
@@ -81,6 +81,6 @@ check-table-spec =
     starts-of-requires
     first-broken-requires
     enum-told
-    enum-told-2
+    enum-known-found
     returns-3
     returns-4)
