@@ -1,0 +1,3 @@
+-- What the public calls judge, and what they tell.
+pub mod Text
+pub mod Afresh
