@@ -1,5 +1,4 @@
 -- What the productions by value hold, the least sets that are found by rounds, and FIRST, each in the words of the definitions.
-pub mod Verdicts
 pub mod Productions
 pub mod Sets
 pub mod Least

@@ -1,7 +1,7 @@
 -- The laws that the proofs share: tests of every number below a bound, one by one; cells counted in one run; items in order; and
 -- that a part refused is the whole refused. Assumes nothing.
-use mathlib.Core.Path.{_≡_, refl, ap, sym, subst, _∙_}
-use mathlib.Core.Bool.{Bool, true, false, _&&_, not, false≢true}
+use mathlib.Core.Path.{_≡_, refl, ap, subst, _∙_}
+use mathlib.Core.Bool.{Bool, true, false, _&&_, not}
 use mathlib.Core.List.{List}
 use mathlib.Core.Logic.{_⊎_, inl, inr}
 use Prim.Native.Nat.{ℕ, zero, suc, _+_, _-_, _*_, _/_, _%_, _^_, _≤_, _<_}
@@ -12,19 +12,16 @@ use lib.ListN.{length}
 use borrow.Author.Count.{below-more}
 use borrow.Author.Tests.{ltb-true, ltb-false, not-true, not-false}
 use Rattle.definitions.specs.Sheet.{byte, word, eight, T, N, P, left, len, symbol, S, itemsAt, stateAt, items, count, itemAt, prod, dot, ahead, Production, Item, Rises, State}
-use Rattle.theory.specs.Check.Says.{Says, says-as, says-and, says-eq, says-lt, says-le, below}
+use Rattle.theory.specs.Check.Says.{Says, says-no, refused, says-as, says-and, says-eq, says-lt, says-le, below}
 use Rattle.sheet.specs.Places.{items-next, count-at, next-at, items-rise, state-before}
 use Rattle.sheet.specs.Sizes.{Bytes, cell-within}
 use Rattle.layout.specs.Parts.{Placed, Fits, States}
 
 -- ---- refusals
 
-pub no : {A : Type 0} → (A → ⊥) → Says false A
-no f = record { to = λ e. absurd (false≢true e); from = λ a. absurd (f a) }
-
 -- what has a part that is refused is refused
-pub refused : {b : Bool} {A B : Type 0} → Says b A → not b ≡ true → (B → A) → Says false B
-refused {b} x e f = no (λ h. false≢true (sym (not-true b e) ∙ x .from (f h)))
+pub part-refused : {b : Bool} {A B : Type 0} → Says b A → not b ≡ true → (B → A) → Says false B
+part-refused {b} x e f = says-no (λ h. refused x (not-true b e) (f h))
 
 -- a test that was not refused
 pub passed : {b : Bool} {A : Type 0} → Says b A → not b ≡ false → A

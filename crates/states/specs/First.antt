@@ -7,10 +7,9 @@ use Prim.Native.Nat.{ℕ, _^_, _<_}
 use native.Mathlib.Omega.{arith}
 use Rattle.definitions.specs.Sheet.{S, prod, dot, ahead, count, Layout}
 use Rattle.definitions.specs.States.{Holds, HasItem, In, Condition1}
-use Rattle.theory.specs.Check.Says.{Says, says-as}
+use Rattle.theory.specs.Check.Says.{Says, says-no, says-as}
 use Rattle.theory.specs.Check.ItemLaws.{with-item}
 use Rattle.terminals.specs.Members.{one-is}
-use Rattle.states.specs.Items.{says-no}
 
 pub record Condition1At (t : List ℕ) (s : ℕ) : Type 0 where
   pub starts : s ≡ 0 → In t s 0 0 0

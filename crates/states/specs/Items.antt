@@ -1,7 +1,7 @@
 -- What a state condition says of one item of a state: what stands after its dot, and conditions 3 and 4 at it. The laws say that
 -- all of them together are the conditions.
 use mathlib.Core.Path.{_≡_, refl, sym, subst, subst⁻¹, _∙_}
-use mathlib.Core.Bool.{Bool, false, true, cond, _&&_, false≢true}
+use mathlib.Core.Bool.{Bool, false, true, cond, _&&_}
 use mathlib.Core.List.{List}
 use mathlib.Core.Logic.{inl, inr, _↔_}
 use Prim.Native.Nat.{ℕ, zero, suc, _+_, _-_, _≤_, _<_}
@@ -11,7 +11,7 @@ use borrow.Author.Tests.{lt-ltb, le-ltb, le-leb, lt-leb}
 use native.Mathlib.Omega.{arith}
 use Rattle.definitions.specs.Sheet.{T, N, P, S, len, symbol, action, goto, count, prod, dot, ahead, IsSymbol, IsAction, IsGoto, Item, Layout}
 use Rattle.definitions.specs.States.{Holds, HasItem, In, target, Goes, Condition3, Reduces, Condition4}
-use Rattle.theory.specs.Check.Says.{Says, says-as, says-eq}
+use Rattle.theory.specs.Check.Says.{Says, says-yes, says-no, says-as, says-eq}
 use Rattle.theory.specs.Check.ItemLaws.{with-in}
 use Rattle.terminals.specs.Members.{Within, empty-is, held-below}
 use Rattle.states.specs.Places.{Lies, IsItem, once, below, listed}
@@ -69,16 +69,6 @@ four t = (
 )
 
 -- ---- what the code needs
-
-pub says-no : {A : Type 0} → (A → ⊥) → Says false A
-says-no f = record { to = λ e. absurd (false≢true e); from = λ a. absurd (f a) }
-
--- a test that failed
-pub refused : {b : Bool} {A : Type 0} → Says b A → b ≡ false → A → ⊥
-refused y e a = false≢true (sym e ∙ y .from a)
-
-pub says-yes : {A : Type 0} → A → Says true A
-says-yes a = record { to = λ e. a; from = λ x. refl }
 
 -- (p,d) at item j of s: its set covers; nowhere: no set is covered but an empty one
 module _ (t : List ℕ) (laid : Layout t) (s : ℕ) (state : s < S t) where

@@ -1,5 +1,4 @@
 -- What the crate's contracts cite: records of a lent row, its shape told record by record, and the laws that tie this to a tree in order.
-pub mod Verdict
 pub mod Rows
 pub mod Shape
 pub mod Walk

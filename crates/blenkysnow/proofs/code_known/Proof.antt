@@ -3,8 +3,7 @@ use native.Mathlib.Omega.{arith}
 use borrow.Author.Needs.{needs}
 use borrow.Author.Tests.{ltb-true, lt-ltb}
 use Rattle.sheet.specs.Within.{head-within}
-use Rattle.theory.specs.Check.Says.{says-as, says-lt}
-use Rattle.tree.specs.Verdict.{says-no}
+use Rattle.theory.specs.Check.Says.{says-no, says-as, says-lt}
 use Rattle.blenkysnow.proofs.code_known.Statement.{statement}
 use Rattle.blenkysnow.proofs.code_known.Tie as tie
 

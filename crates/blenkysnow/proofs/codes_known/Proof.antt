@@ -6,8 +6,7 @@ use native.Mathlib.Numerals.{add-one}
 use lib.ListN.{getD}
 use borrow.Author.Needs.{needs}
 use Rattle.definitions.specs.Sheet.{T}
-use Rattle.theory.specs.Check.Says.{below}
-use Rattle.tree.specs.Verdict.{says-yes, says-no, says-not}
+use Rattle.theory.specs.Check.Says.{says-yes, says-no, refused, below}
 use Rattle.blenkysnow.specs.Text.{Known, Knowns}
 use Rattle.blenkysnow.proofs.codes_known.Statement.{statement}
 use Rattle.blenkysnow.proofs.codes_known.Tie as tie
@@ -47,7 +46,7 @@ returns : tie.Need-returns Inv-loop μ-loop
 returns c =
     let l = c .before .before .before .before in
     let h = c .before .before .before .loop-test .taken in
-    says-no (λ r. says-not (c .if1 .left) (c .before .code-known .ensures) (r (l .loop .i) h))
+    says-no (λ r. refused (c .before .code-known .ensures) (c .if1 .left) (r (l .loop .i) h))
 
 returns-2 : tie.Need-returns-2 Inv-loop μ-loop
 returns-2 c =

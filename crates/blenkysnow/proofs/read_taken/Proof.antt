@@ -3,8 +3,8 @@ use mathlib.Core.Path.{ap, sym, _∙_}
 use borrow.Author.Needs.{needs}
 use borrow.Author.Tests.{not-true, not-false}
 use Rattle.theory.specs.Answers.{if-yes, if-no}
-use Rattle.states.specs.Items.{refused}
 use Rattle.theory.specs.Edits.EditsD.{text-in}
+use Rattle.theory.specs.Check.Says.{refused}
 use Rattle.reading.specs.Fresh.{told}
 use Rattle.answers.specs.declared.Answer.the-variants.{Text}
 use Rattle.blenkysnow.proofs.read_taken.Statement.{statement}

@@ -1,8 +1,7 @@
 -- `blenkysnow::text_right` meets its contract: the first number, the length and each code are tested. Assumes nothing.
 use native.Mathlib.Omega.{arith}
 use borrow.Author.Needs.{needs}
-use Rattle.theory.specs.Check.Says.{says-as}
-use Rattle.tree.specs.Verdict.{says-no}
+use Rattle.theory.specs.Check.Says.{says-no, says-as}
 use Rattle.blenkysnow.specs.Text.{in-order, knowns}
 use Rattle.blenkysnow.proofs.text_right.Statement.{statement}
 use Rattle.blenkysnow.proofs.text_right.Tie as tie

@@ -1,14 +1,13 @@
 -- `layout::head_fits` meets its contract: the states stand after the head of nine bytes. Assumes nothing.
 use native.Mathlib.Omega.{arith}
 use lib.ListN.{length}
-use Rattle.theory.specs.Check.Says.{says-as, says-le}
-use Rattle.layout.proofs.Laws.{no}
+use Rattle.theory.specs.Check.Says.{says-no, says-as, says-le}
 use borrow.Author.Needs.{needs}
 use Rattle.layout.proofs.head_fits.Statement.{statement}
 use Rattle.layout.proofs.head_fits.Tie as tie
 
 returns : tie.Need-returns
-returns c = no (λ h. omega arith)
+returns c = says-no (λ h. omega arith)
 
 items-at-requires : tie.Need-items-at-requires
 items-at-requires c κs = search needs

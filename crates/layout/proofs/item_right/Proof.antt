@@ -1,8 +1,9 @@
 -- `layout::item_right` meets its contract: the production is one that exists, so its length is read within the sheet. Assumes nothing.
 use mathlib.Core.Path.{_∙_}
 use native.Mathlib.Omega.{arith}
+use Rattle.theory.specs.Check.Says.{says-no}
 use Rattle.sheet.specs.Places.{prod-at}
-use Rattle.layout.proofs.Laws.{no, says-item}
+use Rattle.layout.proofs.Laws.{says-item}
 use borrow.Author.Needs.{needs}
 use Rattle.layout.proofs.item_right.Statement.{statement}
 use Rattle.layout.proofs.item_right.Tie as tie
@@ -16,7 +17,7 @@ wide-requires c κs = search needs
 returns : tie.Need-returns
 returns c s i e =
     let a = c .before .before .before .before .args in
-    no (λ h. let n = h .named in omega (arith, prod-at (a .t .now) (a .at) s i e))
+    says-no (λ h. let n = h .named in omega (arith, prod-at (a .t .now) (a .at) s i e))
 
 add-eight : tie.Need-add-eight
 add-eight c = search needs

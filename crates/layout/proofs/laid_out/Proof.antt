@@ -6,7 +6,7 @@ use lib.ListN.{length}
 use Rattle.definitions.specs.Sheet.{itemsAt}
 use Rattle.theory.specs.Check.Says.{says-as}
 use Rattle.sheet.specs.Within.{items-within}
-use Rattle.layout.proofs.Laws.{refused, passed}
+use Rattle.layout.proofs.Laws.{part-refused, passed}
 use borrow.Author.Needs.{needs}
 use Rattle.layout.proofs.laid_out.Statement.{statement}
 use Rattle.layout.proofs.laid_out.Tie as tie
@@ -19,31 +19,31 @@ head-fits-requires : tie.Need-head-fits-requires
 head-fits-requires c κs = search needs
 
 returns : tie.Need-returns
-returns c = refused (c .before .head-fits .ensures) (c .if1 .taken) (items-within _)
+returns c = part-refused (c .before .head-fits .ensures) (c .if1 .taken) (items-within _)
 
 head-right-requires : tie.Need-head-right-requires
 head-right-requires c κs = let f = fits c in omega arith
 
 returns-2 : tie.Need-returns-2
-returns-2 c = refused (c .before .head-right .ensures) (c .if2 .taken) (λ l. l .head)
+returns-2 c = part-refused (c .before .head-right .ensures) (c .if2 .taken) (λ l. l .head)
 
 productions-right-requires : tie.Need-productions-right-requires
 productions-right-requires c κs = fits (c .before .before)
 
 returns-3 : tie.Need-returns-3
-returns-3 c = refused (c .before .productions-right .ensures) (c .if3 .taken) (λ l. l .productions)
+returns-3 c = part-refused (c .before .productions-right .ensures) (c .if3 .taken) (λ l. l .productions)
 
 actions-right-requires : tie.Need-actions-right-requires
 actions-right-requires c κs = fits (c .before .before .before .before)
 
 returns-4 : tie.Need-returns-4
-returns-4 c = refused (c .before .actions-right .ensures) (c .if4 .taken) (λ l. l .actions)
+returns-4 c = part-refused (c .before .actions-right .ensures) (c .if4 .taken) (λ l. l .actions)
 
 gotos-right-requires : tie.Need-gotos-right-requires
 gotos-right-requires c κs = fits (c .before .before .before .before .before .before)
 
 returns-5 : tie.Need-returns-5
-returns-5 c = refused (c .before .gotos-right .ensures) (c .if5 .taken) (λ l. l .gotos)
+returns-5 c = part-refused (c .before .gotos-right .ensures) (c .if5 .taken) (λ l. l .gotos)
 
 states-right-requires : tie.Need-states-right-requires
 states-right-requires c κs =

@@ -2,8 +2,7 @@
 use Prim.Native.Nat.{_+_, _-_, _*_}
 use native.Mathlib.Omega.{arith}
 use lib.ListN.{length}
-use Rattle.theory.specs.Check.Says.{says-as, says-and, says-le}
-use Rattle.layout.proofs.Laws.{no}
+use Rattle.theory.specs.Check.Says.{says-no, says-as, says-and, says-le}
 use borrow.Author.Needs.{needs}
 use Rattle.layout.proofs.state_fits.Statement.{statement}
 use Rattle.layout.proofs.state_fits.Tie as tie
@@ -12,7 +11,7 @@ sub-left : tie.Need-sub-left
 sub-left c = search needs
 
 returns : tie.Need-returns
-returns c = no (λ h. omega arith)
+returns c = says-no (λ h. omega arith)
 
 count-requires : tie.Need-count-requires
 count-requires c κs = search needs

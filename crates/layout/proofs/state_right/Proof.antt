@@ -1,7 +1,7 @@
 -- `layout::state_right` meets its contract: the state fits before its items are read, or is refused. Assumes nothing.
 use native.Mathlib.Omega.{arith}
 use Rattle.theory.specs.Check.Says.{says-as}
-use Rattle.layout.proofs.Laws.{refused, passed}
+use Rattle.layout.proofs.Laws.{part-refused, passed}
 use borrow.Author.Needs.{needs}
 use Rattle.layout.proofs.state_right.Statement.{statement}
 use Rattle.layout.proofs.state_right.Tie as tie
@@ -10,7 +10,7 @@ state-fits-requires : tie.Need-state-fits-requires
 state-fits-requires c κs = search needs
 
 returns : tie.Need-returns
-returns c s e = refused (c .before .state-fits .ensures) (c .if1 .taken) (λ h. h .0)
+returns c s e = part-refused (c .before .state-fits .ensures) (c .if1 .taken) (λ h. h .0)
 
 items-right-requires : tie.Need-items-right-requires
 items-right-requires c κs =

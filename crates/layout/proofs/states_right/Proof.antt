@@ -3,7 +3,7 @@ use Prim.Native.Nat.{_-_, _≤_}
 use native.Mathlib.Omega.{arith}
 use Rattle.definitions.specs.Sheet.{State}
 use Rattle.layout.specs.Parts.{Fits}
-use Rattle.layout.proofs.Laws.{refused, passed, Walked, walked-none, walked-more, walked-on, walked-all}
+use Rattle.layout.proofs.Laws.{part-refused, passed, Walked, walked-none, walked-more, walked-on, walked-all}
 use borrow.Author.Needs.{needs}
 use Rattle.layout.proofs.states_right.Statement.{statement}
 use Rattle.layout.proofs.states_right.Tie as tie
@@ -61,7 +61,7 @@ returns c =
     let l = c .before .before .before in
     let t = l .before .before .before .before .before .before .before .args .t .now in
     let w = l .loop in
-    refused (c .before .state-right .ensures (w .s) (w .inv .1 .place)) (c .if1 .taken)
+    part-refused (c .before .state-right .ensures (w .s) (w .inv .1 .place)) (c .if1 .taken)
     (walked-on t (w .s) (w .at) (w .passed) (w .inv .1) (omega arith))
 
 count-requires : tie.Need-count-requires Inv-loop μ-loop

@@ -1,9 +1,10 @@
 -- `states::action_kept` meets its contract: no action, a shift, or an end, each by its set. Assumes nothing.
 use mathlib.Core.Path.{sym, ap, _∙_}
 use borrow.Author.Needs.{needs}
+use Rattle.theory.specs.Check.Says.{says-yes}
 use Rattle.sheet.specs.Within.{action-within}
 use Rattle.states.specs.Gathering.{exact-says}
-use Rattle.states.specs.Items.{shiftOf, says-yes}
+use Rattle.states.specs.Items.{shiftOf}
 use Rattle.states.specs.Weak.{action-none, action-shift, action-end}
 use Rattle.states.proofs.action_kept.Statement.{statement}
 use Rattle.states.proofs.action_kept.Tie as tie

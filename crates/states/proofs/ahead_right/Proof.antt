@@ -3,8 +3,9 @@ use mathlib.Core.Path.{sym, subst, subst⁻¹, _∙_}
 use Prim.Native.Nat.{ℕ}
 use borrow.Author.Needs.{needs}
 use Rattle.definitions.specs.States.{Holds}
+use Rattle.theory.specs.Check.Says.{refused}
 use Rattle.sheet.specs.Within.{action-within}
-use Rattle.states.specs.Items.{lent-length, refused, four-other, four-asks, four-not-held}
+use Rattle.states.specs.Items.{lent-length, four-other, four-asks, four-not-held}
 use Rattle.states.proofs.ahead_right.Statement.{statement}
 use Rattle.states.proofs.ahead_right.Tie as tie
 

@@ -1,7 +1,6 @@
 -- `states::dot_fits` meets its contract, by whether s and p are 0. Assumes nothing.
-use Rattle.theory.specs.Check.Says.{says-eq, says-not}
+use Rattle.theory.specs.Check.Says.{says-yes, says-eq, says-not}
 use Rattle.states.specs.First.{dot-start, dot-other, dot-inner}
-use Rattle.states.specs.Items.{says-yes}
 use Rattle.states.proofs.dot_fits.Statement.{statement}
 use Rattle.states.proofs.dot_fits.Tie as tie
 

@@ -5,8 +5,8 @@ use native.Mathlib.Omega.{arith}
 use borrow.Author.Count.{below-more}
 use borrow.Author.Needs.{needs}
 use borrow.Author.Tests.{not-true, not-false}
+use Rattle.theory.specs.Check.Says.{says-yes, says-no, refused}
 use Rattle.states.specs.Dots.{Entered, entered-all, all-entered}
-use Rattle.states.specs.Items.{says-yes, says-no, refused}
 use Rattle.states.specs.Places.{listed}
 use Rattle.states.proofs.entered.Statement.{statement}
 use Rattle.states.proofs.entered.Tie as tie

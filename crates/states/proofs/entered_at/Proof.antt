@@ -1,8 +1,8 @@
 -- `states::entered_at` meets its contract: a dot at 0, another symbol before it, or what the array tells. Assumes nothing.
 use borrow.Author.Needs.{needs}
+use Rattle.theory.specs.Check.Says.{says-yes, says-no}
 use Rattle.states.specs.Dots.{entered-zero, entered-other, entered-told}
 use Rattle.states.specs.Gathering.{exact-says}
-use Rattle.states.specs.Items.{says-yes, says-no}
 use Rattle.states.proofs.entered_at.Statement.{statement}
 use Rattle.states.proofs.entered_at.Tie as tie
 

@@ -1,7 +1,7 @@
 -- `states::first_at` meets its contract: both of what it asks of an item. Assumes nothing.
 use borrow.Author.Needs.{needs}
+use Rattle.theory.specs.Check.Says.{refused}
 use Rattle.states.specs.First.{first-told, first-not}
-use Rattle.states.specs.Items.{refused}
 use Rattle.states.proofs.first_at.Statement.{statement}
 use Rattle.states.proofs.first_at.Tie as tie
 

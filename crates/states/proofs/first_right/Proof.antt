@@ -2,9 +2,9 @@
 use mathlib.Core.Path.{sym}
 use borrow.Author.Needs.{needs}
 use borrow.Author.Tests.{not-true, not-false}
+use Rattle.theory.specs.Check.Says.{says-yes, says-no, refused}
 use Rattle.states.specs.Finding.{found-at, found-none}
 use Rattle.states.specs.First.{first-all, all-first, all-starts}
-use Rattle.states.specs.Items.{says-yes, says-no, refused}
 use Rattle.states.proofs.first_right.Statement.{statement}
 use Rattle.states.proofs.first_right.Tie as tie
 

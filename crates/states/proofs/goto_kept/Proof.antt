@@ -1,9 +1,9 @@
 -- `states::goto_kept` meets its contract: no goto, or one, by its set. Assumes nothing.
 use mathlib.Core.Path.{sym, _∙_}
 use borrow.Author.Needs.{needs}
+use Rattle.theory.specs.Check.Says.{says-yes}
 use Rattle.sheet.specs.Within.{goto-within}
 use Rattle.states.specs.Gathering.{exact-says}
-use Rattle.states.specs.Items.{says-yes}
 use Rattle.states.specs.Weak.{goto-none, goto-some}
 use Rattle.states.proofs.goto_kept.Statement.{statement}
 use Rattle.states.proofs.goto_kept.Tie as tie

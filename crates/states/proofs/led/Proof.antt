@@ -3,8 +3,8 @@ use mathlib.Core.Path.{_≡_}
 use Prim.Native.Nat.{_^_, _-_, _≤_}
 use native.Mathlib.Omega.{arith}
 use borrow.Author.Needs.{needs}
+use Rattle.theory.specs.Check.Says.{refused}
 use Rattle.states.specs.Chains.{Sound, sound-none, round-same, within-le}
-use Rattle.states.specs.Items.{refused}
 use Rattle.states.proofs.led.Statement.{statement}
 use Rattle.states.proofs.led.Tie as tie
 

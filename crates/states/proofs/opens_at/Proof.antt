@@ -1,7 +1,7 @@
 -- `states::opens_at` meets its contract, by whether the item is ready. Assumes nothing.
 use borrow.Author.Needs.{needs}
+use Rattle.theory.specs.Check.Says.{refused}
 use Rattle.states.specs.Chains.{opens-in, opens-out}
-use Rattle.states.specs.Items.{refused}
 use Rattle.states.proofs.opens_at.Statement.{statement}
 use Rattle.states.proofs.opens_at.Tie as tie
 

@@ -1,7 +1,7 @@
 -- `states::ready` meets its contract: a dot above 0, (0,0), or what the set tells of the left side. Assumes nothing.
 use borrow.Author.Needs.{needs}
+use Rattle.theory.specs.Check.Says.{says-yes}
 use Rattle.states.specs.Chains.{lent-left, lent-left-small, ready-inner, ready-top, ready-left}
-use Rattle.states.specs.Items.{says-yes}
 use Rattle.states.proofs.ready.Statement.{statement}
 use Rattle.states.proofs.ready.Tie as tie
 

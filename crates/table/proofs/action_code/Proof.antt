@@ -3,7 +3,7 @@ use mathlib.Core.Logic.{inl}
 use native.Mathlib.Omega.{arith}
 use borrow.Author.Needs.{needs}
 use borrow.Author.Tests.{not-true, not-false}
-use Rattle.states.specs.Items.{refused}
+use Rattle.theory.specs.Check.Says.{refused}
 use Rattle.table.specs.Codes.{tells-none, tells-some, five, six}
 use Rattle.table.proofs.action_code.Statement.{statement}
 use Rattle.table.proofs.action_code.Tie as tie

@@ -1,7 +1,7 @@
 -- `table::check_table` meets its contract, by each of the four answers. Assumes nothing.
 use borrow.Author.Needs.{needs}
 use borrow.Author.Tests.{not-true, not-false}
-use Rattle.states.specs.Items.{refused}
+use Rattle.theory.specs.Check.Says.{refused}
 use Rattle.table.specs.Answer.{answers-2, answers-3, answers-0, answers-4}
 use Rattle.table.proofs.check_table.Statement.{statement}
 use Rattle.table.proofs.check_table.Tie as tie

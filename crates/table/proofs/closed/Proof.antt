@@ -5,8 +5,8 @@ use native.Mathlib.Omega.{arith}
 use borrow.Author.Count.{below-more}
 use borrow.Author.Needs.{needs}
 use borrow.Author.Tests.{not-true, not-false}
+use Rattle.theory.specs.Check.Says.{says-yes, says-no, refused}
 use Rattle.sheet.specs.Within.{head-within}
-use Rattle.states.specs.Items.{says-yes, says-no, refused}
 use Rattle.table.specs.Needs.{Met, met-all, all-met}
 use Rattle.table.proofs.closed.Statement.{statement}
 use Rattle.table.proofs.closed.Tie as tie

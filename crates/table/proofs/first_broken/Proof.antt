@@ -6,9 +6,10 @@ use borrow.Author.Count.{below-more}
 use borrow.Author.Needs.{needs}
 use borrow.Author.Tests.{not-true, not-false}
 use Rattle.definitions.specs.Sheet.{S}
+use Rattle.theory.specs.Check.Says.{refused}
 use Rattle.sheet.specs.Within.{head-within, state-within}
 use Rattle.states.specs.Places.{lies-at, listed}
-use Rattle.states.specs.Items.{Condition4At, refused}
+use Rattle.states.specs.Items.{Condition4At}
 use Rattle.table.specs.Codes.{ItemKept, StateKept, third, fourth, all-kept}
 use Rattle.table.proofs.first_broken.Statement.{statement}
 use Rattle.table.proofs.first_broken.Tie as tie

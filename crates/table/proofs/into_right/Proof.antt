@@ -2,9 +2,9 @@
 use mathlib.Core.Path.{sym, _∙_}
 use native.Mathlib.Omega.{arith}
 use borrow.Author.Needs.{needs}
+use Rattle.theory.specs.Check.Says.{says-yes}
 use Rattle.sheet.specs.Within.{state-within}
 use Rattle.states.specs.Places.{lies-at}
-use Rattle.states.specs.Items.{says-yes}
 use Rattle.table.specs.Codes.{into-none, into-told}
 use Rattle.table.proofs.into_right.Statement.{statement}
 use Rattle.table.proofs.into_right.Tie as tie

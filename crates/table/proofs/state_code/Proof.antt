@@ -2,7 +2,7 @@
 use native.Mathlib.Omega.{arith}
 use borrow.Author.Needs.{needs}
 use borrow.Author.Tests.{not-true, not-false}
-use Rattle.states.specs.Items.{refused}
+use Rattle.theory.specs.Check.Says.{refused}
 use Rattle.table.specs.Codes.{tells-some, first, second, seventh, state-then}
 use Rattle.table.proofs.state_code.Statement.{statement}
 use Rattle.table.proofs.state_code.Tie as tie

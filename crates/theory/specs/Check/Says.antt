@@ -1,5 +1,5 @@
 -- What a test says: `Says b A` is that the test b passes exactly where A. One law for each way of making tests.
-use mathlib.Core.Path.{_≡_, refl, sym, subst}
+use mathlib.Core.Path.{_≡_, refl, sym, subst, _∙_}
 use mathlib.Core.Bool.{Bool, true, false, _&&_, _||_, not, cond, false≢true, true≢false}
 use mathlib.Core.Logic.{_⊎_, inl, inr}
 use Prim.Native.Nat.{ℕ, zero, suc, _≤_, _<_}
@@ -12,6 +12,17 @@ use Rattle.theory.specs.Check.Every.{allBelow, anyBelow, _⇒_}
 pub record Says (b : Bool) (A : Type 0) : Type 0 where
   pub to : b ≡ true → A
   pub from : A → b ≡ true
+
+-- a verdict given outright: yes of what holds, no of what does not
+pub says-yes : {A : Type 0} → A → Says true A
+says-yes a = record { to = λ e. a; from = λ h. refl }
+
+pub says-no : {A : Type 0} → (A → ⊥) → Says false A
+says-no f = record { to = λ e. absurd (false≢true e); from = λ h. absurd (f h) }
+
+-- what a test that failed says
+pub refused : {b : Bool} {A : Type 0} → Says b A → b ≡ false → A → ⊥
+refused x e h = false≢true (sym e ∙ x .from h)
 
 module _ {a b : Bool} {A B : Type 0} where
   pub says-and : Says a A → Says b B → Says (a && b) (A × B)

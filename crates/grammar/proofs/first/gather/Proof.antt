@@ -7,8 +7,7 @@ use borrow.Author.Tests.{not-true, not-false}
 use Rattle.definitions.specs.Sheet.{len, symbol}
 use Rattle.definitions.specs.States.{Holds}
 use Rattle.definitions.specs.Grammar.{Null}
-use Rattle.theory.specs.Check.Says.{Says}
-use Rattle.grammar.specs.Verdicts.{refuted}
+use Rattle.theory.specs.Check.Says.{Says, refused}
 use Rattle.grammar.specs.Gathered.{Seen, says-null, seen-none, seen-next, seen-stop, seen-all}
 use Rattle.grammar.specs.First.{Starts}
 use borrow.Author.Needs.{needs}
@@ -60,7 +59,7 @@ returns c =
     let j = c .before .before in
     let l = j .before .before .before .before in
     seen-stop _ _ _ _ (l .loop .k) (l .loop .r .bits) (j .before .starts .result .bits) _ (l .loop .inv .3) (told j) (j .join .ensures) _ (omega arith)
-    (refuted (tested (c .before)) (not-true _ (c .if1 .taken)))
+    (refused (tested (c .before)) (not-true _ (c .if1 .taken)))
 
 add-k : tie.Need-add-k Inv-loop μ-loop
 add-k c = search needs

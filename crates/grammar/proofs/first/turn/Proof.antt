@@ -5,11 +5,11 @@ use Prim.Native.Nat.{ℕ, _+_}
 use native.Mathlib.Omega.{arith}
 use lib.ListN.{getD, set}
 use Rattle.definitions.specs.Sheet.{left}
+use Rattle.theory.specs.Check.Says.{refused}
 use Rattle.terminals.specs.Members.{Join}
 use Rattle.grammar.specs.First.{Turn}
 use Rattle.grammar.specs.Productions.{left-small}
 use Rattle.grammar.specs.Turns.{turn-same, turn-set}
-use Rattle.grammar.specs.Verdicts.{refuted}
 use borrow.Author.Needs.{needs}
 use Rattle.grammar.proofs.first.turn.Statement.{statement}
 use Rattle.grammar.proofs.first.turn.Tie as tie
@@ -77,7 +77,7 @@ returns-2 c =
     subst⁻¹ (λ (n : ℕ). Turn t (s .args .p) (s .args .p + 1) fs (set fs n (j .join .result .bits)) true) n
     (turn-set t fs (s .args .p) (j .before .gather .result .bits) (j .join .result .bits) (j .before .gather .ensures) (joined j)
     l (s .pre .1 .1 .1 .0) (omega (arith, left-small t l (s .args .p) (s .pre .1 .1 .1 .0), s .pre .1 .1 .1 .1)) (omega (arith, j .join .ok))
-    (λ e. refuted (c .before .equals .ensures) (c .if1 .left) (e ∙ sym (old j))))
+    (λ e. refused (c .before .equals .ensures) (c .if1 .left) (e ∙ sym (old j))))
 
 pub turn-spec : {M : Type 1} → statement M
 turn-spec =

@@ -2,9 +2,9 @@
 use mathlib.Core.Path.{subst}
 use Prim.Native.Nat.{ℕ}
 use Rattle.definitions.specs.States.{Holds}
+use Rattle.theory.specs.Check.Says.{refused}
 use Rattle.terminals.specs.Members.{One}
 use Rattle.grammar.specs.Least.{round-same, round-join}
-use Rattle.grammar.specs.Verdicts.{refuted}
 use borrow.Author.Needs.{needs}
 use Rattle.grammar.proofs.least.grown.Statement.{statement}
 use Rattle.grammar.proofs.least.grown.Tie as tie
@@ -37,7 +37,7 @@ returns-2 c =
     (subst (λ (n : ℕ). One n (o .one .result .bits)) (o .before .before .before .before .before .left-at .ensures .0) (o .one .ensures)) (c .join .ensures)
 
 returns-3 : tie.Need-returns-3
-returns-3 c = round-same _ _ _ _ (λ r. absurd (refuted (c .before .ready .ensures) (c .if2 .left) r))
+returns-3 c = round-same _ _ _ _ (λ r. absurd (refused (c .before .ready .ensures) (c .if2 .left) r))
 
 pub grown-spec : {M : Type 1} → statement M
 grown-spec =

@@ -2,10 +2,10 @@
 use mathlib.Core.Path.{refl}
 use Prim.Native.Nat.{_-_, _^_}
 use native.Mathlib.Omega.{arith}
+use Rattle.theory.specs.Check.Says.{refused}
 use Rattle.terminals.specs.Members.{empty-is}
 use Rattle.grammar.specs.Least.{Sound, found}
 use Rattle.grammar.specs.Sets.{within-less}
-use Rattle.grammar.specs.Verdicts.{refuted}
 use borrow.Author.Needs.{needs}
 use Rattle.grammar.proofs.least.least.Statement.{statement}
 use Rattle.grammar.proofs.least.least.Tie as tie
@@ -33,7 +33,7 @@ returns c =
 loop-less : tie.Need-loop-less Inv-loop μ-loop
 loop-less c =
     let r = c .before .before in
-    omega (arith, within-less _ _ (r .round .ensures .grows) (refuted (c .before .equals .ensures) (c .if1 .left)), r .round .ok)
+    omega (arith, within-less _ _ (r .round .ensures .grows) (refused (c .before .equals .ensures) (c .if1 .left)), r .round .ok)
 
 loop-again : tie.Need-loop-again Inv-loop μ-loop
 loop-again c = let r = c .before .before in r .round .ensures .sound (r .before .loop .inv)

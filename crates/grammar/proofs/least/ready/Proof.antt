@@ -5,8 +5,8 @@ use native.Mathlib.Omega.{arith}
 use borrow.Author.Count.{below-none, below-more}
 use borrow.Author.Tests.{not-true, not-false}
 use Rattle.definitions.specs.Sheet.{len, symbol}
+use Rattle.theory.specs.Check.Says.{says-yes, says-no, refused}
 use Rattle.grammar.specs.Least.{Passes}
-use Rattle.grammar.specs.Verdicts.{says-yes, says-no, refuted}
 use borrow.Author.Needs.{needs}
 use Rattle.grammar.proofs.least.ready.Statement.{statement}
 use Rattle.grammar.proofs.least.ready.Tie as tie
@@ -35,7 +35,7 @@ returns : tie.Need-returns Inv-loop μ-loop
 returns c =
     let s = c .before .before .before .before .before .before .before in
     let x = c .before .before .symbol-at in
-    says-no (λ h. refuted (c .before .passes .ensures) (not-true _ (c .if1 .taken)) (subst⁻¹ (Passes (s .args .tokens) (s .args .set .bits)) (x .ensures .0) (h _ (omega arith))))
+    says-no (λ h. refused (c .before .passes .ensures) (not-true _ (c .if1 .taken)) (subst⁻¹ (Passes (s .args .tokens) (s .args .set .bits)) (x .ensures .0) (h _ (omega arith))))
 
 add-k : tie.Need-add-k Inv-loop μ-loop
 add-k c = search needs

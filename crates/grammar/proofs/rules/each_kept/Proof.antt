@@ -5,8 +5,8 @@ use native.Mathlib.Omega.{arith}
 use borrow.Author.Count.{below-none, below-more}
 use borrow.Author.Tests.{not-true, not-false}
 use Rattle.definitions.specs.Sheet.{P}
+use Rattle.theory.specs.Check.Says.{says-yes, says-no, refused}
 use Rattle.sheet.specs.Within.{head-within}
-use Rattle.grammar.specs.Verdicts.{says-yes, says-no, refuted}
 use Rattle.grammar.specs.Rules.{Inside, Only}
 use borrow.Author.Needs.{needs}
 use Rattle.grammar.proofs.rules.each_kept.Statement.{statement}
@@ -28,7 +28,7 @@ inside-kept-requires : tie.Need-inside-kept-requires Inv-loop μ-loop
 inside-kept-requires c κs = (c .before .before .before .before .pre .0, omega arith)
 
 returns : tie.Need-returns Inv-loop μ-loop
-returns c = says-no (λ h. refuted (c .before .inside-kept .ensures) (not-true _ (c .if1 .taken)) (h _ (omega arith) .0))
+returns c = says-no (λ h. refused (c .before .inside-kept .ensures) (not-true _ (c .if1 .taken)) (h _ (omega arith) .0))
 
 only-kept-requires : tie.Need-only-kept-requires Inv-loop μ-loop
 only-kept-requires c κs =
@@ -36,7 +36,7 @@ only-kept-requires c κs =
     (s .pre .0 .layout, (s .pre .1, omega arith))
 
 returns-2 : tie.Need-returns-2 Inv-loop μ-loop
-returns-2 c = says-no (λ h. refuted (c .before .only-kept .ensures) (not-true _ (c .if2 .taken)) (h _ (omega arith) .1))
+returns-2 c = says-no (λ h. refused (c .before .only-kept .ensures) (not-true _ (c .if2 .taken)) (h _ (omega arith) .1))
 
 add-p : tie.Need-add-p Inv-loop μ-loop
 add-p c = search needs

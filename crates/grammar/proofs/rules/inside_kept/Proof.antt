@@ -4,7 +4,7 @@ use Prim.Native.Nat.{ℕ, _≤_, _<_, _-_}
 use native.Mathlib.Omega.{arith}
 use borrow.Author.Count.{below-none, below-more}
 use Rattle.definitions.specs.Sheet.{len, symbol}
-use Rattle.grammar.specs.Verdicts.{says-yes, says-no}
+use Rattle.theory.specs.Check.Says.{says-yes, says-no}
 use Rattle.grammar.specs.Rules.{low-rule, low-broken}
 use borrow.Author.Needs.{needs}
 use Rattle.grammar.proofs.rules.inside_kept.Statement.{statement}

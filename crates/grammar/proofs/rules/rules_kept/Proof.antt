@@ -1,9 +1,8 @@
 -- `rules::rules_kept` meets its contract: the rules are tested one after the other. Assumes nothing.
 use native.Mathlib.Omega.{arith}
 use borrow.Author.Tests.{not-true, not-false}
-use Rattle.theory.specs.Check.Says.{says-as}
+use Rattle.theory.specs.Check.Says.{says-no, refused, says-as}
 use Rattle.sheet.specs.Within.{head-within}
-use Rattle.grammar.specs.Verdicts.{says-no, refuted}
 use Rattle.grammar.specs.Rules.{rules, rules-top, rules-each}
 use borrow.Author.Needs.{needs}
 use Rattle.grammar.proofs.rules.rules_kept.Statement.{statement}
@@ -13,13 +12,13 @@ top-kept-requires : tie.Need-top-kept-requires
 top-kept-requires c κs = search needs
 
 returns : tie.Need-returns
-returns c = says-no (λ g. refuted (c .before .top-kept .ensures) (not-true _ (c .if1 .taken)) (rules-top _ g))
+returns c = says-no (λ g. refused (c .before .top-kept .ensures) (not-true _ (c .if1 .taken)) (rules-top _ g))
 
 each-kept-requires : tie.Need-each-kept-requires
 each-kept-requires c κs = search needs
 
 returns-2 : tie.Need-returns-2
-returns-2 c = says-no (λ g. refuted (c .before .each-kept .ensures) (not-true _ (c .if2 .taken)) (rules-each _ g))
+returns-2 c = says-no (λ g. refused (c .before .each-kept .ensures) (not-true _ (c .if2 .taken)) (rules-each _ g))
 
 nonterminals-of-requires : tie.Need-nonterminals-of-requires
 nonterminals-of-requires c κs = head-within _ (c .before .before .before .before .before .pre .0 .layout)

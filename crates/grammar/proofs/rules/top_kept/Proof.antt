@@ -1,8 +1,7 @@
 -- `rules::top_kept` meets its contract: production 0 is tested part by part. Assumes nothing.
 use mathlib.Core.Path.{sym, _∙_}
 use native.Mathlib.Omega.{arith}
-use Rattle.theory.specs.Check.Says.{says-as, says-le}
-use Rattle.grammar.specs.Verdicts.{says-no}
+use Rattle.theory.specs.Check.Says.{says-no, says-as, says-le}
 use borrow.Author.Needs.{needs}
 use Rattle.grammar.proofs.rules.top_kept.Statement.{statement}
 use Rattle.grammar.proofs.rules.top_kept.Tie as tie
