@@ -1,0 +1,1 @@
+// The reading list of an update, in the working room.
