@@ -54,9 +54,10 @@ split {t} {old} {a} f g b e F =
     let s = stands-split old a b f g e (F .stands) in
     let k = kinds-split (T t) f g (F .kinds) in
     let v = valid-split (tableOf t) (erase f) (erase g) (rw (erase-join f g) at (F .valid)) in
-    let n : size (erase (join f g)) ≡ size (erase f) + size (erase g) = ap size (erase-join f g) ∙ size-append (erase f) (erase g) in
-    (record { stands = s .0; kinds = k .0; valid = v .0; within = omega (arith, F .within) },
-    record { stands = s .1; kinds = k .1; valid = v .1; within = omega (arith, F .within) })
+    let n : size (erase (join f g)) ≡ size (erase f) + size (erase g) = ap size (erase-join f g) ∙ size-append (erase f) (erase g) in (
+      record { stands = s .0; kinds = k .0; valid = v .0; within = omega (arith, F .within) },
+      record { stands = s .1; kinds = k .1; valid = v .1; within = omega (arith, F .within) },
+    )
 
 -- ---- one piece
 abbrev pub rootKind : Tree → ℕ
