@@ -1,0 +1,4 @@
+-- The moves of an update over the reading list.
+pub mod Records
+pub mod Cut
+pub mod Copy

@@ -1,0 +1,105 @@
+// The moves of an update, as document 01 has them: the reductions that a piece's first token calls for, whole shifts with their right-breaks,
+// left-breaks, and the turns of tokens and the end mark by the machine that reads afresh.
+ghost use mathlib.Core.Path.{_≡_};
+ghost use mathlib.Core.List.{List};
+ghost use mathlib.Core.Option.{some};
+ghost use Prim.Native.Nat.{ℕ, _+_, _-_, _*_, _≤_, _<_};
+ghost use lib.ListN.{length, getD, getElem?, drop};
+ghost use Rattle.definitions.specs.Sheet.{P, Layout};
+ghost use Rattle.definitions.specs.Table.{Table, tableOf};
+ghost use Rattle.definitions.specs.Tree.{Row};
+ghost use Rattle.definitions.specs.Moves.{to, standing, breaks};
+ghost use Rattle.theory.specs.Records.Flat.{Word, flat, trim};
+ghost use Rattle.machine.specs.Room.{statesAt, statesEnd, put};
+ghost use Rattle.updating.specs.Records.{symK, numK, Reads};
+ghost use Rattle.updating.specs.Copy.{Rooted, Copied};
+use machine::Act;
+use machine::Goto;
+
+// ---- a whole shift
+
+// Where a state leads on a node's kind, or 0.
+fn lead(t: &[u8], s: usize, kind: usize) -> u32
+    requires { ⌜ Layout (now t) × (256 ≤ kind → kind - 256 < P (now t)) ⌝ }
+    ensures { λ r. ⌜ r ≡ to (tableOf (now (t .entry))) s (symK (tableOf (now (t .entry))) kind) ⌝ }
+{
+    if kind < 256 {
+        let a = machine::act_of(t, s, kind);
+        match a {
+            Act::Shift(to) => to,
+            Act::Error => 0,
+            Act::Accept => 0,
+            Act::Reduce(_) => 0,
+        }
+    } else {
+        let g = machine::goto_of(t, s, machine::left_of(t, kind - 256));
+        match g {
+            Goto::To(to) => to,
+            Goto::Nowhere => 0,
+        }
+    }
+}
+
+// The identity of a node: a token's number, 0 for others.
+fn identity(kind: u32, number: u32) -> u32
+    ensures { λ r. ⌜ r ≡ numK kind number ⌝ }
+{
+    if kind < 256 { number } else { 0 }
+}
+
+// The state at the start of a record of the given size, once n nodes are held.
+fn state_at_start(room: &[u32], n: usize, size: usize) -> usize
+    requires { ⌜ (16384 ≤ length (now room)) × (n < 2048) × (size ≤ n + 1) ⌝ }
+    ensures { λ r. ⌜ (r ≡ getD (now (room .entry)) (statesAt + (n + 1 - size)) 0) × (r < 4294967296) ⌝ }
+{
+    tree::wide(room[machine::STATES + (n + 1 - size)])
+}
+
+// Record a of the run put after the n nodes held, with the state that the state at its start leads to.
+fn copy_one(t: &[u8], run: &[u32], room: &mut [u32], n: usize, a: usize)
+    requires { ⌜
+        Layout (now t)
+        × (16384 ≤ length (now room))
+        × (n < 2048)
+        × (3 * a + 3 ≤ length (now run))
+        × (256 ≤ getD (now run) (3 * a) 0 → getD (now run) (3 * a) 0 - 256 < P (now t))
+        × (getD (now run) (3 * a + 2) 0 ≤ n + 1)
+        ⌝ }
+    ensures { λ r.
+        ⌜
+        now (room .exit)
+        ≡ put (now (room .entry)) n
+        (to (tableOf (now (t .entry))) (getD (now (room .entry)) (statesAt + (n + 1 - getD (now (run .entry)) (3 * a + 2) 0)) 0) (symK (tableOf (now (t .entry))) (getD (now (run .entry)) (3 * a) 0)))
+        (getD (now (run .entry)) (3 * a) 0)
+        (numK (getD (now (run .entry)) (3 * a) 0) (getD (now (run .entry)) (3 * a + 1) 0))
+        (getD (now (run .entry)) (3 * a + 2) 0)
+        ⌝ }
+    ensures { λ r. ⌜ drop statesEnd (now (room .exit)) ≡ drop statesEnd (now (room .entry)) ⌝ }
+{
+    let kind = run[3 * a];
+    let number = run[3 * a + 1];
+    let size = run[3 * a + 2];
+    let from = state_at_start(room, n, tree::wide(size));
+    let s = lead(t, from, tree::wide(kind));
+    machine::put(room, n, s, kind, identity(kind, number), size);
+}
+
+// The first m records of the run put after the n nodes held.
+fn copy(t: &[u8], run: &[u32], room: &mut [u32], n: usize, m: usize)
+    requires { ⌜
+        Layout (now t)
+        × (16384 ≤ length (now room))
+        × (n + m ≤ 2048)
+        × (3 * m ≤ length (now run))
+        × ((ws : List Word) × Reads (tableOf (now t)) (now run) ws × Rooted ws)
+        ⌝ }
+    ensures { λ r.
+        ⌜ ((ws : List Word) → Reads (tableOf (now (t .entry))) (now (run .entry)) ws → Rooted ws → Copied (tableOf (now (t .entry))) (now (room .entry)) (now (room .exit)) n ws m) ⌝ }
+    ensures { λ r. ⌜ drop statesEnd (now (room .exit)) ≡ drop statesEnd (now (room .entry)) ⌝ }
+{
+    let mut j: usize = 0;
+    while j < m {
+        copy_one(t, run, room, n + j, j);
+        j += 1;
+    }
+}
