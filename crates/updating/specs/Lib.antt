@@ -2,3 +2,5 @@
 pub mod Records
 pub mod Cut
 pub mod Copy
+pub mod Break
+pub mod Shift

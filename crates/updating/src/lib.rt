@@ -6,13 +6,15 @@ ghost use mathlib.Core.Option.{some};
 ghost use Prim.Native.Nat.{ℕ, _+_, _-_, _*_, _≤_, _<_};
 ghost use lib.ListN.{length, getD, getElem?, drop};
 ghost use Rattle.definitions.specs.Sheet.{P, Layout};
-ghost use Rattle.definitions.specs.Table.{Table, tableOf};
-ghost use Rattle.definitions.specs.Tree.{Row};
+ghost use Rattle.definitions.specs.Table.{tableOf};
+ghost use Rattle.definitions.specs.Tree.{Row, toks};
+ghost use Rattle.definitions.specs.Reading.{Stack};
 ghost use Rattle.definitions.specs.Moves.{to, standing, breaks};
 ghost use Rattle.theory.specs.Records.Flat.{Word, flat, trim};
 ghost use Rattle.machine.specs.Room.{statesAt, statesEnd, put};
 ghost use Rattle.updating.specs.Records.{symK, numK, Reads};
 ghost use Rattle.updating.specs.Copy.{Rooted, Copied};
+ghost use Rattle.updating.specs.Shift.{Ripe, Shifts};
 use machine::Act;
 use machine::Goto;
 
@@ -102,4 +104,74 @@ fn copy(t: &[u8], run: &[u32], room: &mut [u32], n: usize, m: usize)
         copy_one(t, run, room, n + j, j);
         j += 1;
     }
+}
+
+// How many of the run's records stand up to its last token: what right-breaks leave of a piece.
+fn standing_of(run: &[u32]) -> usize
+    ensures { λ r. ⌜ ((t : List ℕ) (ws : List Word) → Reads (tableOf t) (now (run .entry)) ws → r ≡ length (trim ws)) ⌝ }
+    ensures { λ r. ⌜ 3 * r ≤ length (now (run .entry)) ⌝ }
+{
+    let mut m = run.len() / 3;
+    while m > 0 {
+        if run[3 * (m - 1)] < 256 {
+            return m;
+        }
+        m -= 1;
+    }
+    0
+}
+
+// How many records are left before a piece of the given size that ends with record pos − 1 is broken: one without tokens starts behind the m
+// records that stand and is taken off, another is opened.
+fn before_break(pos: usize, size: usize, m: usize) -> usize
+    requires { ⌜ (0 < size) × (size ≤ pos) × (m < pos) × (pos < 4294967296) ⌝ }
+    ensures { λ r. ⌜ ((m + size ≤ pos → r ≡ pos - size) × (pos < m + size → r ≡ pos - 1)) × (r < pos) ⌝ }
+{
+    if m + size <= pos { pos - size } else { pos - 1 }
+}
+
+// How many right-breaks leave m records of the run standing.
+fn breaks_of(run: &[u32], m: usize) -> usize
+    requires { ⌜ (length (now run) ≤ 6144) × ((t : List ℕ) × (f : Row) × Reads (tableOf t) (now run) (flat f) × (m ≡ standing f) × (0 < toks f)) ⌝ }
+    ensures { λ r. ⌜ ((t : List ℕ) (f : Row) → Reads (tableOf t) (now (run .entry)) (flat f) → m ≡ standing f → 0 < toks f → r ≡ breaks f) ⌝ }
+{
+    let mut pos = run.len() / 3;
+    let mut k: usize = 0;
+    while m < pos {
+        pos = before_break(pos, tree::wide(run[3 * (pos - 1) + 2]), m);
+        k += 1;
+    }
+    k
+}
+
+// What a whole shift comes to: the nodes held then, and the right-breaks; or no room.
+pub enum Whole {
+    Held(usize, usize),
+    Full,
+}
+
+// A piece's run shifted whole, then right-broken: its records up to the last token. The room is judged for those.
+fn shift_whole(t: &[u8], run: &[u32], room: &mut [u32], n: usize) -> Whole
+    requires { ⌜
+        Layout (now t)
+        × (16384 ≤ length (now room))
+        × (n ≤ 2048)
+        × (length (now run) ≤ 6144)
+        × ((σ : Stack) × (q : ℕ) × (c : Row) × Ripe (tableOf (now t)) (now run) (now room) n σ q c)
+        ⌝ }
+    ensures { λ r.
+        ⌜
+        ((σ : Stack) (q : ℕ) (c : Row)
+        → Ripe (tableOf (now (t .entry))) (now (run .entry)) (now (room .entry)) n σ q c
+        → Shifts (tableOf (now (t .entry))) (now (room .exit)) n σ c r)
+        ⌝ }
+    ensures { λ r. ⌜ drop statesEnd (now (room .exit)) ≡ drop statesEnd (now (room .entry)) ⌝ }
+{
+    let m = standing_of(run);
+    if n + m > machine::NODES {
+        return Whole::Full;
+    }
+    let breaks = breaks_of(run, m);
+    copy(t, run, room, n, m);
+    Whole::Held(n + m, breaks)
 }
