@@ -4,3 +4,4 @@ pub mod Cut
 pub mod Copy
 pub mod Break
 pub mod Shift
+pub mod Turns

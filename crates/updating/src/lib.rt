@@ -8,15 +8,19 @@ ghost use lib.ListN.{length, getD, getElem?, drop};
 ghost use Rattle.definitions.specs.Sheet.{P, Layout};
 ghost use Rattle.definitions.specs.Table.{tableOf};
 ghost use Rattle.definitions.specs.Tree.{Row, toks};
-ghost use Rattle.definitions.specs.Reading.{Stack};
-ghost use Rattle.definitions.specs.Moves.{to, standing, breaks};
+ghost use Rattle.definitions.specs.Reading.{Stack, top, reduce};
+ghost use Rattle.definitions.specs.Moves.{to, standing, breaks, enter};
 ghost use Rattle.theory.specs.Records.Flat.{Word, flat, trim};
-ghost use Rattle.machine.specs.Room.{statesAt, statesEnd, put};
+ghost use Rattle.machine.specs.Room.{statesAt, statesEnd, Holds, put};
+ghost use Rattle.tree.specs.Shaped as Rows;
 ghost use Rattle.updating.specs.Records.{symK, numK, Reads};
 ghost use Rattle.updating.specs.Copy.{Rooted, Copied};
 ghost use Rattle.updating.specs.Shift.{Ripe, Shifts};
+ghost use Rattle.updating.specs.Turns.{turnOf, Reduces, Facing, Does, Above};
 use machine::Act;
 use machine::Goto;
+use machine::Landing;
+use machine::Step;
 
 // ---- a whole shift
 
@@ -174,4 +178,90 @@ fn shift_whole(t: &[u8], run: &[u32], room: &mut [u32], n: usize) -> Whole
     let breaks = breaks_of(run, m);
     copy(t, run, room, n, m);
     Whole::Held(n + m, breaks)
+}
+
+// ---- a turn
+
+// What a turn comes to: a token shifted; a reduction; a piece shifted whole, with the nodes held then and the right-breaks; a left-break, with the
+// words of the list then; accepted; or the refusal.
+pub enum Turn {
+    Shifted,
+    Reduced,
+    Whole(usize, usize),
+    Left(usize),
+    Taken,
+    NoAction,
+    NoRoom,
+    NoGoto,
+}
+
+// The turn of a token or the end mark.
+fn plainly(s: Step) -> Turn
+    ensures { λ r. ⌜ r ≡ turnOf s ⌝ }
+{
+    match s {
+        Step::Shifted => Turn::Shifted,
+        Step::Reduced => Turn::Reduced,
+        Step::Taken => Turn::Taken,
+        Step::NoAction => Turn::NoAction,
+        Step::NoRoom => Turn::NoRoom,
+        Step::NoGoto => Turn::NoGoto,
+    }
+}
+
+// A reduction that the next piece's first token calls for, with room judged before it.
+fn reduce(t: &[u8], room: &mut [u32], n: usize, p: usize) -> Turn
+    requires { ⌜ Layout (now t) × (16384 ≤ length (now room)) × (n ≤ 2048) × (p < P (now t)) × ((σ : Stack) × Holds (now room) n σ) ⌝ }
+    ensures { λ r.
+        ⌜ ((σ : Stack) → Holds (now (room .entry)) n σ → (f : Row) → Reduces (now (room .exit)) n f (reduce (tableOf (now (t .entry))) (2048 - n) p σ f) r) ⌝ }
+    ensures { λ r. ⌜ drop statesEnd (now (room .exit)) ≡ drop statesEnd (now (room .entry)) ⌝ }
+{
+    if n >= machine::NODES {
+        return Turn::NoRoom;
+    }
+    let l = machine::reduce(t, room, n, p);
+    match l {
+        Landing::On => Turn::Reduced,
+        Landing::Nowhere => Turn::NoGoto,
+    }
+}
+
+// The piece whose root is record v, next in the list of m words: shifted whole where the state s has a goto on it, else left-broken.
+fn enter(
+    t: &[u8],
+    old: &[u32],
+    run: &[u32],
+    room: &mut [u32],
+    n: usize,
+    m: usize,
+    v: usize,
+    s: usize,
+) -> Turn
+    requires { ⌜
+        Layout (now t)
+        × (16384 ≤ length (now room))
+        × (n ≤ 2048)
+        × Rows.Holds (now old)
+        × ((put : List ℕ) × (σ : Stack) × (f : Row) × Facing (now t) (now old) put (now run) (now room) n m v σ f × (s ≡ top σ))
+        ⌝ }
+    ensures { λ r.
+        ⌜
+        ((put : List ℕ) (σ : Stack) (f : Row) (F : Facing (now (t .entry)) (now (old .entry)) put (now (run .entry)) (now (room .entry)) n m v σ f)
+        → s ≡ top σ
+        → Does (now (t .entry)) (now (old .entry)) put (now (room .exit)) n m σ (enter (tableOf (now (t .entry))) (2048 - n) σ (F .kids) (F .rest) (tableOf (now (t .entry)) .goto (top σ) (tableOf (now (t .entry)) .lhs (F .prod)))) r)
+        ⌝ }
+    ensures { λ r. ⌜ Above (now (room .entry)) (now (room .exit)) ⌝ }
+{
+    let left = machine::left_of(t, tree::kind_at(old, v) - 256);
+    let g = machine::goto_of(t, s, left);
+    match g {
+        Goto::Nowhere => Turn::Left(list::open(old, room, v, m - 1)),
+        Goto::To(_) => {
+            let w = shift_whole(t, run, room, n);
+            match w {
+                Whole::Held(held, breaks) => Turn::Whole(held, breaks),
+                Whole::Full => Turn::NoRoom,
+            }
+        }
+    }
 }
