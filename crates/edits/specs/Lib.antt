@@ -1,0 +1,8 @@
+-- What the crate's contracts cite: edits in order judged on the lent words, and what the marks of the edits are.
+pub mod Codes
+pub mod Before
+pub mod Length
+pub mod Fits
+pub mod Judged
+pub mod Marks
+pub mod CleanMarks
