@@ -6,3 +6,7 @@ pub mod Fits
 pub mod Judged
 pub mod Marks
 pub mod CleanMarks
+pub mod LastPiece
+pub mod Pushing
+pub mod Going
+pub mod Stepping

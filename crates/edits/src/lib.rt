@@ -2,14 +2,20 @@
 ghost use mathlib.Core.Path.{_≡_};
 ghost use mathlib.Core.List.{List};
 ghost use Prim.Native.Nat.{ℕ, _+_, _≤_, _<_};
-ghost use lib.ListN.{length};
+ghost use lib.ListN.{length, getD};
 ghost use Rattle.definitions.specs.Sheet.{T, Layout};
 ghost use Rattle.definitions.specs.Tree.{Tok};
 ghost use Rattle.definitions.specs.Edits.{Edit, EditsInOrder};
 ghost use Rattle.theory.specs.Check.Says.{Says};
 ghost use Rattle.edits.specs.Codes.{Known, Knowns};
 ghost use Rattle.edits.specs.Fits.{placeAt, removedAt, putInAt, Next, Walked};
-ghost use Rattle.edits.specs.Marks.{mark2, inside, Comes, Orderly, Marked};
+ghost use Rattle.tree.specs.Shaped.{Holds};
+ghost use Rattle.list.specs.Pending.{Pending};
+ghost use Rattle.list.specs.Opening.{Elsewhere};
+ghost use Rattle.edits.specs.Marks.{putsAt, mark2, inside, Comes, Orderly, Marked};
+ghost use Rattle.edits.specs.Pushing.{Pushes};
+ghost use Rattle.edits.specs.Going.{Case, Going, list};
+ghost use Rattle.edits.specs.Stepping.{Room, CleanBy};
 
 // ---- the inserted codes
 
@@ -182,4 +188,76 @@ fn mark_edits(edits: &[u32], room: &mut [u32], n: usize)
             mark(room, i, puts, out);
         }
     }
+}
+
+// ---- the reading list
+
+// Puts the inserted codes from lo up to hi on the list of m words, the last first; how many words the list has then.
+fn push_codes(room: &mut [u32], m: usize, lo: usize, hi: usize) -> usize
+    requires { ⌜ (16384 ≤ length (now room)) × Room m lo hi ⌝ }
+    ensures { λ r. ⌜ Pushes (now (room .entry)) (now (room .exit)) m lo hi r ⌝ }
+{
+    let mut k = m;
+    let mut j = hi;
+    while lo < j {
+        j -= 1;
+        list::push(room, k, (list::CODES + j) as u32);
+        k += 1;
+    }
+    k
+}
+
+// Puts the codes on it that are put in before old token a.
+fn push_before(room: &mut [u32], m: usize, a: usize) -> usize
+    requires { ⌜ (16384 ≤ length (now room)) × (a < 2048) × Room m (getD (now room) (putsAt + a) 0) (getD (now room) (putsAt + (a + 1)) 0) ⌝ }
+    ensures { λ r.
+        ⌜ Pushes (now (room .entry)) (now (room .exit)) m (getD (now (room .entry)) (putsAt + a) 0) (getD (now (room .entry)) (putsAt + (a + 1)) 0) r ⌝ }
+{
+    let lo = tree::wide(room[PUTS + a]);
+    let hi = tree::wide(room[PUTS + (a + 1)]);
+    push_codes(room, m, lo, hi)
+}
+
+// Whether the old tokens from a up to b remain and nothing is put in before any but the first.
+fn clean(room: &[u32], a: usize, b: usize) -> bool
+    requires { ⌜ (16384 ≤ length (now room)) × (a < b) × (b ≤ 2048) ⌝ }
+    ensures { λ r. ⌜ Says r (CleanBy (now (room .entry)) a b) ⌝ }
+{
+    if room[GONE + b] == room[GONE + a] {
+        room[PUTS + b] == room[PUTS + (a + 1)]
+    } else {
+        false
+    }
+}
+
+// Puts on the list of m words what the marks leave of the first n records, from the last back: the largest clean pieces and the codes put
+// in before them. A clean piece is passed whole; a node that is not clean is passed alone, and its children are next.
+fn list_pieces(old: &[u32], room: &mut [u32], n: usize, m: usize) -> usize
+    requires { ⌜ (16384 ≤ length (now room)) × Holds (now old) × ((C : Case (now old)) × Going C (now room) n m) ⌝ }
+    ensures { λ r.
+        ⌜
+        ((C : Case (now (old .entry))) → Going C (now (room .entry)) n m → Pending (C .t) (now (old .entry)) (C .put) (now (room .exit)) r (list C))
+        ⌝ }
+    ensures { λ r. ⌜ Elsewhere (now (room .entry)) (now (room .exit)) ⌝ }
+{
+    let mut pos = n;
+    let mut k = m;
+    while pos > 0 {
+        let from = pos - tree::size_at(old, pos - 1);
+        let a = tree::wide(room[list::TOKENS + from]);
+        let b = tree::wide(room[list::TOKENS + pos]);
+        if a == b {
+            pos = from;
+        } else if clean(room, a, b) {
+            list::push(room, k, (pos - 1) as u32);
+            k = push_before(room, k + 1, a);
+            pos = from;
+        } else if tree::kind_at(old, pos - 1) < 256 {
+            k = push_before(room, k, a);
+            pos = from;
+        } else {
+            pos -= 1;
+        }
+    }
+    k
 }

@@ -15,7 +15,7 @@ use Rattle.tree.specs.Tokens.{tokens}
 use Rattle.list.specs.Pieces.{Forest, Piece, Ending, ending, Root, root, Inside, inside, tokens-of}
 use Rattle.list.specs.Pending.{listAt, tokensAt, Pending, piece, pending-stands, pending-toks, Counted}
 
-row-assoc : (f g h : Row) → (f ⧺ g) ⧺ h ≡ f ⧺ (g ⧺ h)
+pub row-assoc : (f g h : Row) → (f ⧺ g) ⧺ h ≡ f ⧺ (g ⧺ h)
 row-assoc ∅ g h = refl
 row-assoc (tok x f) g h = ap (tok x) (row-assoc f g h)
 row-assoc (nod q c f) g h = ap (nod q c) (row-assoc f g h)
@@ -101,12 +101,12 @@ opened {t} {old} {put} {r} {start} {m} {g} O = by (O .left) (O .at) (O .is)
     by (ntok k i f) a e = absurd (omega arith)
     by (nnod q i c f) a e = absurd (omega arith)
 
-toks-append : (f g : Row) → toks (f ⧺ g) ≡ toks f + toks g
+pub toks-append : (f g : Row) → toks (f ⧺ g) ≡ toks f + toks g
 toks-append ∅ g = omega arith
 toks-append (tok x f) g = omega (arith, toks-append f g)
 toks-append (nod q c f) g = omega (arith, toks-append f g)
 
-some-size : (x : Tree) → 0 < size (cons x ∅)
+pub some-size : (x : Tree) → 0 < size (cons x ∅)
 some-size (leaf x) = omega arith
 some-size (node q c) = omega arith
 
