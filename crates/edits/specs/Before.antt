@@ -1,16 +1,16 @@
 -- What the edits put in and remove before a place. The codes put in at a place are those between two such counts, and a token is gone
 -- where the count of removed ones grows. The edits stand in order (`Places`).
 use mathlib.Core.Path.{_≡_, refl, sym, ap, _∙_}
-use mathlib.Core.Bool.{Bool, true, false, cond, _&&_, _||_}
+use mathlib.Core.Bool.{true, false, cond}
 use mathlib.Core.List.{List, [], _∷_, _++_}
 use Prim.Native.Nat.{ℕ, zero, suc, _+_, _-_, _≤_, _<_}
 use native.Mathlib.Omega.{arith}
 use native.Mathlib.Decide.{decLt, decLe}
-use lib.Dec.{ltb, leb, eqb}
+use lib.Dec.{ltb, eqb}
 use lib.ListN.{length, take, drop}
-use lib.Seq.{slice, slice-empty, length-slice, take-add, take-nil, drop-nil}
+use lib.Seq.{slice, length-slice, take-add, take-nil, drop-nil}
 use borrow.Author.Tests.{lt-ltb, le-ltb, le-leb, lt-leb, eq-eqb, ne-eqb}
-use Rattle.definitions.specs.Tree.{Tok, mk}
+use Rattle.definitions.specs.Tree.{mk}
 use Rattle.definitions.specs.Edits.{Edit, Places, putIn, inserted, gone, putAt}
 
 -- how many tokens the edits at places below i put in

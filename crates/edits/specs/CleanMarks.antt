@@ -1,5 +1,5 @@
 -- A piece is clean exactly where no mark of its tokens grows: none of them is removed, and nothing is put in before any but the first.
-use mathlib.Core.Path.{_≡_, refl, ap}
+use mathlib.Core.Path.{_≡_, refl}
 use mathlib.Core.Bool.{Bool, true, false, not}
 use mathlib.Core.List.{List, [], _∷_}
 use Prim.Native.Nat.{ℕ, zero, suc, _+_, _≤_}

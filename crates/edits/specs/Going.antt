@@ -1,25 +1,25 @@
 -- The reading list made in one pass back over the old records. What holds at record pos: the list has what the marks give of the pieces
 -- behind it, and the first pos records are a row of pieces that is still to be passed.
-use mathlib.Core.Path.{_≡_, refl, sym, ap, _∙_}
+use mathlib.Core.Path.{_≡_, sym, ap, _∙_}
 use mathlib.Core.List.{List, [], _∷_}
-use Prim.Native.Nat.{ℕ, zero, suc, _+_, _-_, _≤_, _<_}
+use Prim.Native.Nat.{ℕ, suc, _+_, _-_, _≤_, _<_}
 use native.Mathlib.Omega.{arith}
-use lib.ListN.{length, getD, set, take, drop}
+use lib.ListN.{length, getD}
 use lib.Seq.{getD-take, getD-drop}
 use Rattle.definitions.specs.Sheet.{T}
 use Rattle.definitions.specs.Tree.{Tok, Row, ∅, tok, nod, _⧺_, row, size, yield, toks, NRow, ε, ntok, nnod, erase, Kinds, InOrder}
 use Rattle.definitions.specs.Table.{tableOf}
-use Rattle.definitions.specs.Edits.{Edit, Places, putIn, inserted, Mark, marks, putAt, newText, EditsInOrder}
+use Rattle.definitions.specs.Edits.{Edit, Places, Mark, marks, EditsInOrder}
 use Rattle.theory.specs.Edits.FromMarks.{pieces, readingList}
 use Rattle.theory.specs.Edits.Edited.{yield-list}
 use Rattle.theory.specs.Machine.Rows.{toks-length, yield-row, size-append}
 use Rattle.theory.specs.Machine.Update.{valid-append}
 use Rattle.theory.specs.Tree.Build.{join}
 use Rattle.tree.specs.Rows.{Stands}
-use Rattle.list.specs.Pieces.{Forest, all-old, erase-join}
-use Rattle.list.specs.Pending.{listAt, tokensAt, Pending, Counted, none}
-use Rattle.list.specs.Opening.{Elsewhere, toks-append}
-use Rattle.edits.specs.Before.{putBefore, goneBefore, removals, put-all, put-at}
+use Rattle.list.specs.Pieces.{Forest, erase-join}
+use Rattle.list.specs.Pending.{listAt, tokensAt, Pending, Counted}
+use Rattle.list.specs.Opening.{Elsewhere}
+use Rattle.edits.specs.Before.{removals}
 use Rattle.edits.specs.Length.{length-text}
 use Rattle.edits.specs.Marks.{putsAt, goneAt, Holds, Orderly}
 
@@ -109,8 +109,11 @@ pub record Going {old : List ℕ} (C : Case old) (r : List ℕ) (pos m : ℕ) : 
 
 -- what is written on the list leaves the counts and the marks
 module _ {r r′ : List ℕ} (E : Elsewhere r r′) where
+  pub high-word : (j : ℕ) → getD r′ (tokensAt + j) 0 ≡ getD r (tokensAt + j) 0
+  high-word j = sym (getD-drop tokensAt r′ j 0) ∙ ap (λ (l : List ℕ). getD l j 0) (E .above) ∙ getD-drop tokensAt r j 0
+
   pub counts-stand : {old : List ℕ} → Counted old r → Counted old r′
-  counts-stand c j h = sym (getD-drop tokensAt r′ j 0) ∙ ap (λ (l : List ℕ). getD l j 0) (E .above) ∙ getD-drop tokensAt r j 0 ∙ c j h
+  counts-stand c j h = high-word j ∙ c j h
 
   low-word : (x : ℕ) → x < listAt → getD r′ x 0 ≡ getD r x 0
   low-word x h = sym (getD-take listAt r′ x 0 h) ∙ ap (λ (l : List ℕ). getD l x 0) (E .below) ∙ getD-take listAt r x 0 h

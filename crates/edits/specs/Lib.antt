@@ -10,3 +10,4 @@ pub mod LastPiece
 pub mod Pushing
 pub mod Going
 pub mod Stepping
+pub mod Begin

@@ -3,7 +3,7 @@
 use mathlib.Core.Path.{_≡_, refl, sym, ap, _∙_}
 use mathlib.Core.Bool.{Bool, true, false, cond, _||_}
 use mathlib.Core.List.{List, [], _∷_}
-use Prim.Native.Nat.{ℕ, zero, suc, _+_, _-_, _≤_, _<_}
+use Prim.Native.Nat.{ℕ, suc, _+_, _-_, _≤_, _<_}
 use native.Mathlib.Omega.{arith}
 use native.Mathlib.Decide.{decLt, decLe}
 use native.Mathlib.Numerals.{add-one}
@@ -12,7 +12,7 @@ use lib.ListN.{length, getD, drop, set, length-set}
 use lib.Seq.{getD-set-same, getD-set-other}
 use borrow.Author.Tests.{le-ltb, le-leb}
 use Rattle.definitions.specs.Edits.{Edit, editWords, Places, putIn, gone}
-use Rattle.edits.specs.Before.{putBefore, goneBefore, put-first, put-none, put-within, gone-none}
+use Rattle.edits.specs.Before.{putBefore, goneBefore, put-first, put-none, gone-none}
 use Rattle.edits.specs.Fits.{placeAt, removedAt, putInAt, editAt, Fits, Next, fits-next, fits-none, one-row}
 
 -- where the two rows of marks start

@@ -1,12 +1,12 @@
 -- Inserted codes put on the reading list, the last first.
-use mathlib.Core.Path.{_≡_, refl, sym, ap, _∙_, subst}
-use mathlib.Core.List.{List, [], _∷_}
+use mathlib.Core.Path.{_≡_, ap, _∙_}
+use mathlib.Core.List.{List, _∷_}
 use Prim.Native.Nat.{ℕ, suc, _+_, _-_, _≤_, _<_}
 use native.Mathlib.Omega.{arith}
 use native.Mathlib.Numerals.{add-one}
 use lib.ListN.{length, getD, set}
 use lib.Seq.{slice, slice-empty, slice-cons, getD-set-same, getD-set-other}
-use Rattle.definitions.specs.Tree.{mk, Row, tok, _⧺_, row}
+use Rattle.definitions.specs.Tree.{Row, _⧺_, row}
 use Rattle.definitions.specs.Edits.{inserted}
 use Rattle.list.specs.Pending.{listAt, Pending, code, pending-stands}
 use Rattle.list.specs.Opening.{Elsewhere, unmoved, pushes}

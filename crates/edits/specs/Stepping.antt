@@ -2,26 +2,25 @@
 -- children. In each case the list that results is the same.
 use mathlib.Core.Path.{_≡_, refl, sym, ap, _∙_}
 use mathlib.Core.Bool.{Bool, true, false}
-use mathlib.Core.List.{List, [], _∷_, _++_, append-nil}
-use Prim.Native.Nat.{ℕ, zero, suc, _+_, _-_, _≤_, _<_}
+use mathlib.Core.List.{List, [], _∷_}
+use Prim.Native.Nat.{ℕ, suc, _+_, _-_, _≤_, _<_}
 use native.Mathlib.Omega.{arith}
 use native.Mathlib.Numerals.{add-one}
 use lib.ListN.{length, getD, set}
 use lib.Seq.{slice, length-slice, getD-set-same, getD-set-other}
-use Rattle.definitions.specs.Sheet.{T}
-use Rattle.definitions.specs.Tree.{Tok, mk, Row, ∅, tok, nod, _⧺_, row, size, yield, toks, NRow, erase}
+use Rattle.definitions.specs.Tree.{Tok, mk, Row, ∅, _⧺_, row, size, yield, toks, NRow, erase}
 use Rattle.definitions.specs.Reading.{Tree, leaf, node, cons}
-use Rattle.definitions.specs.Edits.{Edit, putIn, inserted, Mark, marks, putAt}
+use Rattle.definitions.specs.Edits.{putIn, inserted, Mark, marks}
 use Rattle.theory.specs.Check.Says.{Says, says-as}
 use Rattle.theory.specs.Edits.FromMarks.{skip, lead, clean, pieces}
-use Rattle.theory.specs.Machine.Rows.{toks-length, size-append, append-∅}
+use Rattle.theory.specs.Machine.Rows.{toks-length, size-append}
 use Rattle.theory.specs.Tree.Build.{join}
 use Rattle.tree.specs.Rows.{kindAt, sizeAt}
 use Rattle.tree.specs.Tokens.{tokens}
-use Rattle.list.specs.Pieces.{Forest, Piece, Ending, ending, Root, root, root-real, Inside, inside, erase-join, tokens-forest, rootKind}
+use Rattle.list.specs.Pieces.{Forest, Piece, Ending, ending, Root, root, root-real, inside, erase-join, tokens-forest}
 use Rattle.list.specs.Pending.{listAt, tokensAt, Pending, piece, pending-stands, pending-toks, Counted}
-use Rattle.list.specs.Opening.{Elsewhere, unmoved, pushes, row-assoc, toks-append, cons-row}
-use Rattle.edits.specs.Before.{putBefore, goneBefore, put-at, put-grows, put-within, length-inserted}
+use Rattle.list.specs.Opening.{Elsewhere, unmoved, pushes, row-assoc, toks-append, cons-row, some-size}
+use Rattle.edits.specs.Before.{putBefore, put-at, put-grows, put-within, length-inserted}
 use Rattle.edits.specs.CleanMarks.{skip-marks, clean-marks}
 use Rattle.edits.specs.LastPiece.{pieces-append, piece-none, piece-clean, token-gone, node-broken}
 use Rattle.edits.specs.Marks.{putsAt, goneAt, Holds}
@@ -64,10 +63,6 @@ pub record Last {old : List ℕ} (C : Case old) (r : List ℕ) (pos m from a b :
   pub counted : Counted old r
   pub marked : Holds (C .es) (many C) r
 
-some-size : (x : Tree) → 0 < size (cons x ∅)
-some-size (leaf y) = omega arith
-some-size (node q c) = omega arith
-
 pub then : {r r₁ r₂ : List ℕ} → Elsewhere r r₁ → Elsewhere r₁ r₂ → Elsewhere r r₂
 then E F = record { below = F .below ∙ E .below; above = F .above ∙ E .above; long = F .long ∙ E .long }
 
@@ -109,7 +104,7 @@ module _ {old : List ℕ} {C : Case old} {r : List ℕ} {pos m : ℕ} (S : Going
         last = omega arith;
         within = omega (arith, S .within);
         is = sym (row-assoc (pieces (erase (E .rest)) (allMarks C)) (pieces (cons x ∅) (skip (yield (erase (E .rest))) (allMarks C))) (S .done))
-        ∙ ap (_⧺ S .done) (sym (ap (λ (f : Row). pieces f (allMarks C)) (E .is) ∙ pieces-append (erase (E .rest)) (cons x ∅) (allMarks C))) ∙ S .is;
+            ∙ ap (_⧺ S .done) (sym (ap (λ (f : Row). pieces f (allMarks C)) (E .is) ∙ pieces-append (erase (E .rest)) (cons x ∅) (allMarks C))) ∙ S .is;
         pending = S .pending;
         counted = S .counted;
         marked = S .marked;
@@ -325,8 +320,8 @@ module _ {old : List ℕ} {C : Case old} {r : List ℕ} {pos m from a b : ℕ} (
                 at = ap size j ∙ size-append (erase (L .rest)) c ∙ omega (arith, I .ends);
                 within = omega (arith, ap toks j, toks-append (erase (L .rest)) c, L .first, L .within);
                 is = ap (_⧺ L .done) (ap (λ (f : Row). pieces f (allMarks C)) j ∙ pieces-append (erase (L .rest)) c (allMarks C))
-                ∙ row-assoc (pieces (erase (L .rest)) (allMarks C)) (pieces c own) (L .done)
-                ∙ ap (λ (f : Row). pieces (erase (L .rest)) (allMarks C) ⧺ (f ⧺ L .done)) (sym (node-broken own q c (omega arith) e)) ∙ is;
+                    ∙ row-assoc (pieces (erase (L .rest)) (allMarks C)) (pieces c own) (L .done)
+                    ∙ ap (λ (f : Row). pieces (erase (L .rest)) (allMarks C) ⧺ (f ⧺ L .done)) (sym (node-broken own q c (omega arith) e)) ∙ is;
                 pending = L .pending;
                 counted = L .counted;
                 marked = L .marked;

@@ -2,15 +2,16 @@
 ghost use mathlib.Core.Path.{_≡_};
 ghost use mathlib.Core.List.{List};
 ghost use Prim.Native.Nat.{ℕ, _+_, _≤_, _<_};
-ghost use lib.ListN.{length, getD};
+ghost use lib.ListN.{length, getD, drop};
 ghost use Rattle.definitions.specs.Sheet.{T, Layout};
-ghost use Rattle.definitions.specs.Tree.{Tok};
+ghost use Rattle.definitions.specs.Tree.{Tok, yield, NRow, erase, InOrder};
 ghost use Rattle.definitions.specs.Edits.{Edit, EditsInOrder};
 ghost use Rattle.theory.specs.Check.Says.{Says};
+ghost use Rattle.theory.specs.Edits.FromMarks.{readingList};
 ghost use Rattle.edits.specs.Codes.{Known, Knowns};
 ghost use Rattle.edits.specs.Fits.{placeAt, removedAt, putInAt, Next, Walked};
 ghost use Rattle.tree.specs.Shaped.{Holds};
-ghost use Rattle.list.specs.Pending.{Pending};
+ghost use Rattle.list.specs.Pending.{Pending, Counted};
 ghost use Rattle.list.specs.Opening.{Elsewhere};
 ghost use Rattle.edits.specs.Marks.{putsAt, mark2, inside, Comes, Orderly, Marked};
 ghost use Rattle.edits.specs.Pushing.{Pushes};
@@ -260,4 +261,30 @@ fn list_pieces(old: &[u32], room: &mut [u32], n: usize, m: usize) -> usize
         }
     }
     k
+}
+
+// Makes the reading list of an update in the working room: the largest clean pieces of the old row and the inserted codes, the next one
+// last; how many words it has. The counts of the old row's tokens stand behind it.
+pub fn make_list(old: &[u32], edits: &[u32], put: &[u32], room: &mut [u32]) -> usize
+    requires { ⌜ 16384 ≤ length (now room) ⌝ }
+    requires { ⌜
+        ((t : List ℕ) × (tree : NRow) × (es : List Edit) × (T t ≤ 256) × InOrder t (now old) tree × EditsInOrder t (yield (erase tree)) (now edits) (now put) es)
+        ⌝ }
+    ensures { λ m.
+        ⌜
+        ((t : List ℕ) (tree : NRow) (es : List Edit)
+        → T t ≤ 256
+        → InOrder t (now (old .entry)) tree
+        → EditsInOrder t (yield (erase tree)) (now (edits .entry)) (now (put .entry)) es
+        → Pending t (now (old .entry)) (now (put .entry)) (now (room .exit)) m (readingList (erase tree) es (now (put .entry))))
+        ⌝ }
+    ensures { λ m. ⌜ (m ≤ 2048) × Counted (now (old .entry)) (now (room .exit)) × (drop 16384 (now (room .exit)) ≡ drop 16384 (now (room .entry))) ⌝ }
+{
+    let n = tree::count_at(old);
+    tree::count_tokens(old, room, list::TOKENS, n);
+    let all = tree::wide(room[list::TOKENS + n]);
+    mark_edits(edits, room, all);
+    let last = tree::wide(room[PUTS + all]);
+    let m = push_codes(room, 0, last, put.len());
+    list_pieces(old, room, n, m)
 }

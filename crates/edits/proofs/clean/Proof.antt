@@ -1,9 +1,9 @@
-use Rattle.edits.specs.Marks.{putsAt}
-use Rattle.theory.specs.Check.Says.{says-no, says-as, says-eq}
-use lib.ListN.{getD}
+-- `edits::clean` meets its contract: both marks are compared. Assumes nothing.
 use Prim.Native.Nat.{_+_}
-use native.Mathlib.Omega.{arith}
+use lib.ListN.{getD}
 use borrow.Author.Needs.{needs}
+use Rattle.theory.specs.Check.Says.{says-no, says-as, says-eq}
+use Rattle.edits.specs.Marks.{putsAt}
 use Rattle.edits.proofs.clean.Statement.{statement}
 use Rattle.edits.proofs.clean.Tie as tie
 

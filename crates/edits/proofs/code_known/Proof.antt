@@ -1,7 +1,6 @@
 -- `edits::code_known` meets its contract: both bounds are tested. Assumes nothing.
 use native.Mathlib.Omega.{arith}
 use borrow.Author.Needs.{needs}
-use borrow.Author.Tests.{ltb-true, lt-ltb}
 use Rattle.sheet.specs.Within.{head-within}
 use Rattle.theory.specs.Check.Says.{says-as, says-lt, says-no}
 use Rattle.edits.proofs.code_known.Statement.{statement}

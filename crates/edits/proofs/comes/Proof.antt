@@ -1,6 +1,5 @@
 -- `edits::comes` meets its contract: the words that are left and the place are tested. Assumes nothing.
 use native.Mathlib.Omega.{arith}
-use borrow.Author.Needs.{needs}
 use Rattle.theory.specs.Check.Says.{says-as, says-eq, says-no}
 use Rattle.edits.proofs.comes.Statement.{statement}
 use Rattle.edits.proofs.comes.Tie as tie

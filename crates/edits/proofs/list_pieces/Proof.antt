@@ -1,12 +1,14 @@
-use Rattle.theory.specs.Check.Says.{refused}
-use mathlib.Core.Path.{_≡_, ap, _∙_}
+-- `edits::list_pieces` meets its contract. The loop's invariant is `Going`, of every case of which it held at first, and that only the list is
+-- written. The measure is the records left. Assumes nothing.
+use mathlib.Core.Path.{_≡_, ap}
 use Prim.Native.Nat.{_+_, _*_, _-_, _≤_, _<_}
+use native.Mathlib.Omega.{arith}
 use lib.ListN.{length}
+use borrow.Author.Needs.{needs}
+use Rattle.theory.specs.Check.Says.{refused}
 use Rattle.list.specs.Opening.{Elsewhere, unmoved, pushes}
 use Rattle.edits.specs.Going.{Case, Going, few-tokens, going-end}
 use Rattle.edits.specs.Stepping.{then, Sized, sized, Last, last-piece, some-tokens, step-none, push-clean, room-clean, step-clean, room-gone, step-gone, step-broken}
-use native.Mathlib.Omega.{arith}
-use borrow.Author.Needs.{needs}
 use Rattle.edits.proofs.list_pieces.Statement.{statement}
 use Rattle.edits.proofs.list_pieces.Tie as tie
 
@@ -199,9 +201,10 @@ loop-again-2 c =
     let l = w .before .before .before .before .before .before in
     let s = l .before .before .before in
     let B = t .before .clean .ensures .to (t .if2 .taken) in
-    let E : Elsewhere (s .args .room .now) (u .push .last .0) = rw (u .push .ensures) (pushes (l .loop .k) (l .loop .pos - 1) (push-clean (own w) (some e) B) (l .loop .inv .0)) in
-    (then E (p .push-before .ensures .elsewhere),
-    λ C G. step-clean (piece w C G) (some e) B (u .push .last .0) (u .push .ensures) (s .pre .1 .0 .1) (long (w .before .before .before .before .before) .2) (p .push-before .ensures))
+    let E : Elsewhere (s .args .room .now) (u .push .last .0) = rw (u .push .ensures) (pushes (l .loop .k) (l .loop .pos - 1) (push-clean (own w) (some e) B) (l .loop .inv .0)) in (
+      then E (p .push-before .ensures .elsewhere),
+      λ C G. step-clean (piece w C G) (some e) B (u .push .last .0) (u .push .ensures) (s .pre .1 .0 .1) (long (w .before .before .before .before .before) .2) (p .push-before .ensures),
+    )
 
 sub-kind-at : tie.Need-sub-kind-at Inv-loop μ-loop
 sub-kind-at c = search needs
@@ -245,9 +248,10 @@ loop-again-3 c =
     let w = e .before in
     let l = w .before .before .before .before .before .before in
     let k = t .before .kind-at .ensures .0 in
-    let h = t .if3 .taken in
-    (then (l .loop .inv .0) (p .push-before2 .ensures .elsewhere),
-    λ C G. step-gone (piece w C G) (some e) (refused (f .before .clean .ensures) (f .if2 .left)) (omega arith) (p .push-before2 .ensures))
+    let h = t .if3 .taken in (
+      then (l .loop .inv .0) (p .push-before2 .ensures .elsewhere),
+      λ C G. step-gone (piece w C G) (some e) (refused (f .before .clean .ensures) (f .if2 .left)) (omega arith) (p .push-before2 .ensures),
+    )
 
 sub-pos : tie.Need-sub-pos Inv-loop μ-loop
 sub-pos c = search needs

@@ -1,4 +1,4 @@
-use native.Mathlib.Omega.{arith}
+-- `edits::push_before` meets its contract: the codes between two marks. Assumes nothing.
 use borrow.Author.Needs.{needs}
 use Rattle.edits.proofs.push_before.Statement.{statement}
 use Rattle.edits.proofs.push_before.Tie as tie

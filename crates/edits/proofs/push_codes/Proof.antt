@@ -1,8 +1,9 @@
-use Rattle.edits.specs.Pushing.{Pushes, pushes-none, pushes-code}
+-- `edits::push_codes` meets its contract. The loop's invariant: the codes from j on are on the list. The measure is j. Assumes nothing.
+use mathlib.Core.Path.{_≡_}
 use Prim.Native.Nat.{_≤_}
-use mathlib.Core.Path.{_≡_, _∙_}
 use native.Mathlib.Omega.{arith}
 use borrow.Author.Needs.{needs}
+use Rattle.edits.specs.Pushing.{Pushes, pushes-none, pushes-code}
 use Rattle.edits.proofs.push_codes.Statement.{statement}
 use Rattle.edits.proofs.push_codes.Tie as tie
 
