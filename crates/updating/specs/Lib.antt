@@ -5,3 +5,4 @@ pub mod Copy
 pub mod Break
 pub mod Shift
 pub mod Turns
+pub mod Next

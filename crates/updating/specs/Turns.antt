@@ -1,7 +1,8 @@
 -- What a turn of the code says of the definitions' turn: the list and the stack before it and after it.
 use mathlib.Core.Path.{_≡_, refl, sym, ap, _∙_, subst}
 use mathlib.Core.List.{List, [], _∷_, _++_}
-use mathlib.Core.Option.{Option, none, some}
+use mathlib.Core.Option.{Option, some}
+use mathlib.Core.Option as Option
 use Prim.Native.Nat.{ℕ, zero, suc, _+_, _-_, _*_, _≤_, _<_}
 use native.Mathlib.Omega.{arith}
 use native.Mathlib.Decide.{decLe}
@@ -9,7 +10,7 @@ use lib.ListN.{length, getD, take, drop}
 use lib.Seq.{getD-drop, getD-take, take-take, drop-drop}
 use Rattle.definitions.specs.Sheet.{T}
 use Rattle.definitions.specs.Table.{Act, err, acc, sh, red, Table, tableOf}
-use Rattle.definitions.specs.Tree.{mk, Row, ∅, tok, nod, _⧺_, size, toks, yield, words}
+use Rattle.definitions.specs.Tree.{Tok, mk, Row, ∅, tok, nod, _⧺_, size, toks, yield, look, words}
 use Rattle.definitions.specs.Reading.{Tree, leaf, node, cons, Stack, push, top, held, shifted, taken, refused, Move, reduction, tokenShift, wholeShift, leftBreak, on, stop}
 use Rattle.definitions.specs.Reading as Reading
 use Rattle.definitions.specs.Moves.{standing, breaks, tokened, fits, rightBreak, turn}
@@ -27,7 +28,7 @@ use Rattle.machine.specs.declared.Step.the-variants as Step
 use Rattle.tree.specs.Shaped as Rows
 use Rattle.tree.specs.Rows.{length-words}
 use Rattle.list.specs.Pieces.{Piece}
-use Rattle.list.specs.Pending.{listAt, tokensAt, Pending, pending-stands, Counted}
+use Rattle.list.specs.Pending.{listAt, tokensAt, Pending, none, piece, code, pending-stands, Counted}
 use Rattle.list.specs.Opening.{Opens, Elsewhere}
 use Rattle.updating.specs.Records.{Reads, piece-reads}
 use Rattle.updating.specs.Shift.{Ripe, Shifted}
@@ -155,7 +156,7 @@ module _ {t old put run r : List ℕ} {n m v : ℕ} {σ : Stack} {f : Row} (F : 
       }
 
   -- no goto: a left-break
-  pub left-broken : {r′ : List ℕ} {k : ℕ} {o : Option ℕ} → n ≤ 2048 → o ≡ none → Pending t old put r′ k (tokened (F .kids) ⧺ F .rest) → Elsewhere r r′
+  pub left-broken : {r′ : List ℕ} {k : ℕ} {o : Option ℕ} → n ≤ 2048 → o ≡ Option.none → Pending t old put r′ k (tokened (F .kids) ⧺ F .rest) → Elsewhere r r′
       → Goes t old put r′ n k (Moves.enter (tableOf t) (2048 - n) σ (F .kids) (F .rest) o) leftBreak
   left-broken {r′ = r′} l e P E =
       record {
@@ -204,3 +205,78 @@ module _ (G : Table) (n p : ℕ) (σ : Stack) (f : Row) where
 
   pub reduce-lands : {r : List ℕ} → n < 2048 → Landed r n f (Reading.settle G p f (Reading.pop (length (G .rhs p)) σ ∅)) → Landed r n f (Reading.reduce G (2048 - n) p σ f)
   reduce-lands h L = record { stack = L .stack; is = reduce-some h ∙ L .is; holds = L .holds }
+
+-- ---- a turn of the machine that reads afresh
+behind : {t old put r : List ℕ} {m : ℕ} {f : Row} {x : Tok} {g : Row} → Listed t old put r m f → f ≡ tok x g → (0 < m) × Listed t old put r (m - 1) g
+behind {t} {old} {put} {r} {m} {f} {x} {g} L e = by m f (L .pending) e (L .small)
+  where
+    made : (m : ℕ) {h : Row} → Pending t old put r m h → h ≡ g → toks g ≤ 2048 → (0 < suc m) × Listed t old put r (suc m - 1) g
+    made m P z l =
+        let p : suc m - 1 ≡ m = omega arith in
+        (omega arith, rw p (record { few = L .few; codes = L .codes; pending = subst (Pending t old put r m) z P; counted = L .counted; small = l }))
+
+    by : (m : ℕ) (f : Row) → Pending t old put r m f → f ≡ tok x g → toks f ≤ 2048 → (0 < m) × Listed t old put r (m - 1) g
+    by zero ∅ none e l = let z : _≡_ {A = ℕ} 0 1 = cc in absurd (omega arith)
+    by (suc m) f (piece v (leaf y) q i P h k) e l = made m k (cc) (omega (arith, ap toks e))
+    by (suc m) f (piece v (node q c) w i P h k) e l = let z : _≡_ {A = ℕ} 0 1 = cc in absurd (omega arith)
+    by (suc m) f (code c q i k) e l = made m k (cc) (omega (arith, ap toks e))
+
+pub plain-does : {t old put r : List ℕ} (r′ : List ℕ) {m : ℕ} {f : Row} (n : ℕ) (σ : Stack) (k i : ℕ) (o : Reading.Turn) → Listed t old put r m f → drop statesEnd r′ ≡ drop statesEnd r
+    → (s : Step) → Did r′ n σ f k i o s → Does t old put r′ n m σ o (turnOf s)
+plain-does r′ n σ k i o L d Step.Shifted D =
+    let w = D .0 in
+    let b = behind L (w .next) in
+    (record { stack = _; rest = w .rest; is = w .is; holds = w .holds; listed = list-stands d (b .1) }, b .0)
+plain-does r′ n σ k i o L d Step.Reduced D = record { stack = D .0 .stack; rest = _; is = D .0 .is; holds = D .0 .holds; listed = list-stands d L }
+plain-does r′ n σ k i o L d Step.Taken D = D
+plain-does r′ n σ k i o L d Step.NoAction D = D
+plain-does r′ n σ k i o L d Step.NoRoom D = D
+plain-does r′ n σ k i o L d Step.NoGoto D = D
+
+-- ---- a piece next, by the action on its first token
+module _ {t old put run r : List ℕ} {n m v : ℕ} {σ : Stack} {f : Row} (F : Facing t old put run r n m v σ f) where
+  abbrev G : Table
+  G = tableOf t
+
+  abbrev over : Option ℕ
+  over = G .goto (top σ) (G .lhs (F .prod))
+
+  pub reduces : {k : ℕ} {x : Act} (p : ℕ) (r′ : List ℕ) (o : Turn) → drop statesEnd r′ ≡ drop statesEnd r → x ≡ G .act (top σ) k → k ≡ look 0 (yield f) → x ≡ red p
+      → Reduces r′ n f (Reading.reduce G (2048 - n) p σ f) o → Does t old put r′ n m σ (turn G (2048 - n) σ f) o
+  reduces {k} {x} p r′ o d e l z D =
+      let w : turn G (2048 - n) σ f ≡ Reading.reduce G (2048 - n) p σ f = is-piece ∙ ap (λ (a : Act). Moves.piece G (2048 - n) a σ (F .prod) (F .kids) (F .rest)) (by-look) ∙ ap (Reading.reduce G (2048 - n) p σ) (sym (F .is)) in
+      by o (subst (λ (y : Reading.Turn). Reduces r′ n f y o) (sym w) D)
+    where
+      is-piece : turn G (2048 - n) σ f ≡ Moves.piece G (2048 - n) (G .act (top σ) (look 0 (yield f))) σ (F .prod) (F .kids) (F .rest)
+      is-piece = rw (F .is) refl
+
+      by-look : G .act (top σ) (look 0 (yield f)) ≡ red p
+      by-look = ap (G .act (top σ)) (sym l) ∙ sym e ∙ z
+
+      by : (o : Turn) → Reduces r′ n f (turn G (2048 - n) σ f) o → Does t old put r′ n m σ (turn G (2048 - n) σ f) o
+      by Code.Reduced D = record { stack = D .stack; rest = f; is = D .is; holds = D .holds; listed = list-stands d (F .whole) }
+      by Code.NoRoom D = D
+      by Code.NoGoto D = D
+      by Code.Shifted D = absurd D
+      by (Code.Whole h b) D = absurd D
+      by (Code.Left j) D = absurd D
+      by Code.Taken D = absurd D
+      by Code.NoAction D = absurd D
+
+  -- another action than a reduction
+  pub data Other : Act → Type 0 where
+    error : Other err
+    accept : Other acc
+    shift : {s : ℕ} → Other (sh s)
+
+  pub enters : {k : ℕ} {x : Act} (r′ : List ℕ) (o : Turn) → x ≡ G .act (top σ) k → k ≡ look 0 (yield f) → Other x
+      → Does t old put r′ n m σ (Moves.enter G (2048 - n) σ (F .kids) (F .rest) over) o → Does t old put r′ n m σ (turn G (2048 - n) σ f) o
+  enters {k} {x} r′ o e l y D = subst (λ (w : Reading.Turn). Does t old put r′ n m σ w o) (sym (is-piece ∙ ap (λ (a : Act). Moves.piece G (2048 - n) a σ (F .prod) (F .kids) (F .rest)) (sym (e ∙ ap (G .act (top σ)) l)) ∙ by x y)) D
+    where
+      is-piece : turn G (2048 - n) σ f ≡ Moves.piece G (2048 - n) (G .act (top σ) (look 0 (yield f))) σ (F .prod) (F .kids) (F .rest)
+      is-piece = rw (F .is) refl
+
+      by : (x : Act) → Other x → Moves.piece G (2048 - n) x σ (F .prod) (F .kids) (F .rest) ≡ Moves.enter G (2048 - n) σ (F .kids) (F .rest) over
+      by err error = refl
+      by acc accept = refl
+      by (sh s) shift = refl

@@ -7,16 +7,17 @@ ghost use Prim.Native.Nat.{ℕ, _+_, _-_, _*_, _≤_, _<_};
 ghost use lib.ListN.{length, getD, getElem?, drop};
 ghost use Rattle.definitions.specs.Sheet.{P, Layout};
 ghost use Rattle.definitions.specs.Table.{tableOf};
-ghost use Rattle.definitions.specs.Tree.{Row, toks};
+ghost use Rattle.definitions.specs.Tree as Tree;
+ghost use Rattle.definitions.specs.Tree.{Row, toks, yield};
 ghost use Rattle.definitions.specs.Reading.{Stack, top, reduce};
-ghost use Rattle.definitions.specs.Moves.{to, standing, breaks, enter};
+ghost use Rattle.definitions.specs.Moves.{to, standing, breaks, enter, turn};
 ghost use Rattle.theory.specs.Records.Flat.{Word, flat, trim};
 ghost use Rattle.machine.specs.Room.{statesAt, statesEnd, Holds, put};
 ghost use Rattle.tree.specs.Shaped as Rows;
 ghost use Rattle.updating.specs.Records.{symK, numK, Reads};
 ghost use Rattle.updating.specs.Copy.{Rooted, Copied};
 ghost use Rattle.updating.specs.Shift.{Ripe, Shifts};
-ghost use Rattle.updating.specs.Turns.{turnOf, Reduces, Facing, Does, Above};
+ghost use Rattle.updating.specs.Turns.{turnOf, Reduces, Facing, Listed, Does, Above};
 use machine::Act;
 use machine::Goto;
 use machine::Landing;
@@ -264,4 +265,82 @@ fn enter(
             }
         }
     }
+}
+
+// The turn of the piece whose root is record v, next in the list of m words: the action on its first token, `look`, says whether it is reduced.
+fn face(
+    t: &[u8],
+    old: &[u32],
+    run: &[u32],
+    room: &mut [u32],
+    n: usize,
+    m: usize,
+    v: usize,
+    look: u32,
+) -> Turn
+    requires { ⌜
+        Layout (now t)
+        × (16384 ≤ length (now room))
+        × (n ≤ 2048)
+        × Rows.Holds (now old)
+        × ((put : List ℕ) × (σ : Stack) × (f : Row) × Facing (now t) (now old) put (now run) (now room) n m v σ f)
+        ⌝ }
+    ensures { λ r.
+        ⌜
+        ((put : List ℕ) (σ : Stack) (f : Row)
+        → Facing (now (t .entry)) (now (old .entry)) put (now (run .entry)) (now (room .entry)) n m v σ f
+        → look ≡ Tree.look 0 (yield f)
+        → Does (now (t .entry)) (now (old .entry)) put (now (room .exit)) n m σ (turn (tableOf (now (t .entry))) (2048 - n) σ f) r)
+        ⌝ }
+    ensures { λ r. ⌜ Above (now (room .entry)) (now (room .exit)) ⌝ }
+{
+    let s = machine::top(room, n);
+    let act = machine::act_of(t, s, tree::wide(look));
+    match act {
+        Act::Reduce(p) => reduce(t, room, n, p as usize),
+        Act::Error => enter(t, old, run, room, n, m, v, s),
+        Act::Accept => enter(t, old, run, room, n, m, v, s),
+        Act::Shift(_) => enter(t, old, run, room, n, m, v, s),
+    }
+}
+
+// A turn over n nodes and a list of m words, where the terminal `look` stands next.
+fn take_turn<'a>(
+    t: &[u8],
+    old: &'a [u32],
+    put: &'a [u32],
+    room: &mut [u32],
+    n: usize,
+    m: usize,
+    look: u32,
+) -> Turn
+    requires { ⌜
+        Layout (now t)
+        × (16384 ≤ length (now room))
+        × (n ≤ 2048)
+        × Rows.Holds (now old)
+        × ((σ : Stack) × (f : Row) × Holds (now room) n σ × Listed (now t) (now old) (now put) (now room) m f)
+        ⌝ }
+    ensures { λ r.
+        ⌜
+        ((σ : Stack) (f : Row)
+        → Holds (now (room .entry)) n σ
+        → Listed (now (t .entry)) (now (old .entry)) (now (put .entry)) (now (room .entry)) m f
+        → look ≡ Tree.look 0 (yield f)
+        → Does (now (t .entry)) (now (old .entry)) (now (put .entry)) (now (room .exit)) n m σ (turn (tableOf (now (t .entry))) (2048 - n) σ f) r)
+        ⌝ }
+    ensures { λ r. ⌜ Above (now (room .entry)) (now (room .exit)) ⌝ }
+{
+    if m == 0 {
+        return plainly(machine::plain(t, room, n, 0, 0));
+    }
+    let entry = list::entry_at(room, m);
+    let run = list::next_run(old, put, entry);
+    if run.len() == 1 {
+        return plainly(machine::plain(t, room, n, run[0], 0));
+    }
+    if run.len() == 3 {
+        return plainly(machine::plain(t, room, n, run[0], run[1]));
+    }
+    face(t, old, run, room, n, m, entry, look)
 }
