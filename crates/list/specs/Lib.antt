@@ -4,3 +4,4 @@ pub mod Pending
 pub mod Runs
 pub mod Opening
 pub mod Peek
+pub mod Weigh

@@ -32,7 +32,7 @@ pending-stands k (piece {m = m} v x e l p h q) = piece v x (k m (omega arith) �
 pending-stands k (code {m = m} c e l q) = code c (k m (omega arith) ∙ e) l (pending-stands (λ j i. k j (omega arith)) q)
 
 -- each word has a token
-toks-cons : (x : Tree) (f : Row) → toks (cons x f) ≡ toks (cons x ∅) + toks f
+pub toks-cons : (x : Tree) (f : Row) → toks (cons x f) ≡ toks (cons x ∅) + toks f
 toks-cons (leaf x) f = omega arith
 toks-cons (node q c) f = omega arith
 

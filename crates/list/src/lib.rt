@@ -5,12 +5,13 @@ ghost use mathlib.Core.List.{List};
 ghost use Prim.Native.Nat.{ℕ, _+_, _-_, _*_, _≤_, _<_};
 ghost use lib.ListN.{length, getD, set};
 ghost use Rattle.definitions.specs.Sheet.{T};
-ghost use Rattle.definitions.specs.Tree.{Row, yield, look};
+ghost use Rattle.definitions.specs.Tree.{Row, toks, yield, look};
 ghost use Rattle.theory.specs.Check.Says.{Says};
 ghost use Rattle.tree.specs.Shaped.{Holds};
 ghost use Rattle.list.specs.Pending.{listAt, tokensAt, Pending};
 ghost use Rattle.list.specs.Runs.{Fits, runOf, firstOf};
 ghost use Rattle.list.specs.Opening.{Opens, Keeps, Elsewhere};
+ghost use Rattle.list.specs.Weigh.{Counting, Weighed, Weighs};
 
 // Where the list starts in the room; it has at most 2,048 words.
 pub const LIST: usize = 8193;
@@ -123,4 +124,35 @@ pub fn peek<'a>(old: &'a [u32], put: &'a [u32], room: &[u32], m: usize) -> u32
     } else {
         first_token(run)
     }
+}
+
+// ---- the tokens of the list
+
+// How many tokens the run of an entry has.
+fn tokens_of(old: &[u32], room: &[u32], entry: usize) -> usize
+    requires { ⌜ (16384 ≤ length (now room)) × Holds (now old) × ((t put : List ℕ) × (m : ℕ) × (f : Row) × Weighed t (now old) put (now room) m entry f) ⌝ }
+    ensures { λ r.
+        ⌜ ((t put : List ℕ) (m : ℕ) (f : Row) → Weighed t (now (old .entry)) put (now (room .entry)) m entry f → Weighs t (now (old .entry)) put (now (room .entry)) m r f) ⌝ }
+    ensures { λ r. ⌜ r ≤ 2048 ⌝ }
+{
+    if entry < CODES {
+        let start = entry + 1 - tree::size_at(old, entry);
+        tree::wide(room[TOKENS + (entry + 1)]) - tree::wide(room[TOKENS + start])
+    } else {
+        1
+    }
+}
+
+// How many tokens the list of m words has.
+pub fn tokens_left(old: &[u32], room: &[u32], m: usize) -> usize
+    requires { ⌜ (16384 ≤ length (now room)) × Holds (now old) × ((t put : List ℕ) × (f : Row) × Counting t (now old) put (now room) m f) ⌝ }
+    ensures { λ r. ⌜ ((t put : List ℕ) (f : Row) → Counting t (now (old .entry)) put (now (room .entry)) m f → r ≡ toks f) ⌝ }
+{
+    let mut k = m;
+    let mut total: usize = 0;
+    while k > 0 {
+        total += tokens_of(old, room, entry_at(room, k));
+        k -= 1;
+    }
+    total
 }
