@@ -122,11 +122,11 @@ begins t codes r h =
       left = refl;
     }
 
-read-on : (G : Table) (m r : ℕ) (k : Counts) (σ : Stack) (f : Row) {v : Move} {σ′ : Stack} {f′ : Row} → turn G r σ f ≡ on v σ′ f′ → read G (suc m) r k σ f ≡ read G m (r - cost v) (tally v k) σ′ f′
+pub read-on : (G : Table) (m r : ℕ) (k : Counts) (σ : Stack) (f : Row) {v : Move} {σ′ : Stack} {f′ : Row} → turn G r σ f ≡ on v σ′ f′ → read G (suc m) r k σ f ≡ read G m (r - cost v) (tally v k) σ′ f′
 unfolding read
 read-on G m r k σ f e = ap (after _ k) e
 
-read-stop : (G : Table) (m r : ℕ) (k : Counts) (σ : Stack) (f : Row) {e : Reading.End} → turn G r σ f ≡ stop e → read G (suc m) r k σ f ≡ record { end = e; counts = k }
+pub read-stop : (G : Table) (m r : ℕ) (k : Counts) (σ : Stack) (f : Row) {e : Reading.End} → turn G r σ f ≡ stop e → read G (suc m) r k σ f ≡ record { end = e; counts = k }
 unfolding read
 read-stop G m r k σ f e = ap (after _ k) e
 

@@ -6,3 +6,5 @@ pub mod Break
 pub mod Shift
 pub mod Turns
 pub mod Next
+pub mod Shrink
+pub mod Running

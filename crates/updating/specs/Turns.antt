@@ -30,6 +30,7 @@ use Rattle.tree.specs.Rows.{length-words}
 use Rattle.list.specs.Pieces.{Piece}
 use Rattle.list.specs.Pending.{listAt, tokensAt, Pending, none, piece, code, pending-stands, Counted}
 use Rattle.list.specs.Opening.{Opens, Elsewhere}
+use Rattle.list.specs.Weigh.{Counting}
 use Rattle.updating.specs.Records.{Reads, piece-reads}
 use Rattle.updating.specs.Shift.{Ripe, Shifted}
 use Rattle.updating.specs.declared.Turn.{Turn}
@@ -90,16 +91,16 @@ pub record Wholly (t old put r : List ℕ) (m : ℕ) (o : Reading.Turn) (n b : �
   pub goes : Goes t old put r n m o (wholeShift kids)
   pub broken : b ≡ suc (breaks kids)
 
--- the turn o over n nodes and a list of m words, by the code's outcome
-abbrev pub Does : List ℕ → List ℕ → List ℕ → List ℕ → ℕ → ℕ → Stack → Reading.Turn → Turn → Type 0
-Does t old put r n m σ o Code.Shifted = Goes t old put r (n + 1) (m - 1) o tokenShift × (0 < m)
-Does t old put r n m σ o Code.Reduced = Goes t old put r (n + 1) m o reduction
-Does t old put r n m σ o (Code.Whole h b) = Wholly t old put r (m - 1) o h b × (0 < m)
-Does t old put r n m σ o (Code.Left k) = Goes t old put r n k o leftBreak
-Does t old put r n m σ o Code.Taken = (o ≡ stop (taken σ)) × Holds r n σ
-Does t old put r n m σ o Code.NoAction = o ≡ stop (refused 7 (shifted σ))
-Does t old put r n m σ o Code.NoRoom = o ≡ stop (refused 8 0)
-Does t old put r n m σ o Code.NoGoto = o ≡ stop (refused 10 0)
+-- the turn o over the n nodes of σ and a list of m words, f, by the code's outcome
+abbrev pub Does : List ℕ → List ℕ → List ℕ → List ℕ → ℕ → ℕ → Stack → Row → Reading.Turn → Turn → Type 0
+Does t old put r n m σ f o Code.Shifted = Goes t old put r (n + 1) (m - 1) o tokenShift × (0 < m)
+Does t old put r n m σ f o Code.Reduced = Goes t old put r (n + 1) m o reduction
+Does t old put r n m σ f o (Code.Whole h b) = Wholly t old put r (m - 1) o h b × (0 < m)
+Does t old put r n m σ f o (Code.Left k) = Goes t old put r n k o leftBreak
+Does t old put r n m σ f o Code.Taken = (o ≡ stop (taken σ)) × Holds r n σ
+Does t old put r n m σ f o Code.NoAction = (o ≡ stop (refused 7 (shifted σ))) × Listed t old put r m f
+Does t old put r n m σ f o Code.NoRoom = o ≡ stop (refused 8 0)
+Does t old put r n m σ f o Code.NoGoto = o ≡ stop (refused 10 0)
 
 abbrev pub turnOf : Step → Turn
 turnOf Step.Shifted = Code.Shifted
@@ -222,14 +223,14 @@ behind {t} {old} {put} {r} {m} {f} {x} {g} L e = by m f (L .pending) e (L .small
     by (suc m) f (code c q i k) e l = made m k (cc) (omega (arith, ap toks e))
 
 pub plain-does : {t old put r : List ℕ} (r′ : List ℕ) {m : ℕ} {f : Row} (n : ℕ) (σ : Stack) (k i : ℕ) (o : Reading.Turn) → Listed t old put r m f → drop statesEnd r′ ≡ drop statesEnd r
-    → (s : Step) → Did r′ n σ f k i o s → Does t old put r′ n m σ o (turnOf s)
+    → (s : Step) → Did r′ n σ f k i o s → Does t old put r′ n m σ f o (turnOf s)
 plain-does r′ n σ k i o L d Step.Shifted D =
     let w = D .0 in
     let b = behind L (w .next) in
     (record { stack = _; rest = w .rest; is = w .is; holds = w .holds; listed = list-stands d (b .1) }, b .0)
 plain-does r′ n σ k i o L d Step.Reduced D = record { stack = D .0 .stack; rest = _; is = D .0 .is; holds = D .0 .holds; listed = list-stands d L }
 plain-does r′ n σ k i o L d Step.Taken D = D
-plain-does r′ n σ k i o L d Step.NoAction D = D
+plain-does r′ n σ k i o L d Step.NoAction D = (D, list-stands d L)
 plain-does r′ n σ k i o L d Step.NoRoom D = D
 plain-does r′ n σ k i o L d Step.NoGoto D = D
 
@@ -242,7 +243,7 @@ module _ {t old put run r : List ℕ} {n m v : ℕ} {σ : Stack} {f : Row} (F : 
   over = G .goto (top σ) (G .lhs (F .prod))
 
   pub reduces : {k : ℕ} {x : Act} (p : ℕ) (r′ : List ℕ) (o : Turn) → drop statesEnd r′ ≡ drop statesEnd r → x ≡ G .act (top σ) k → k ≡ look 0 (yield f) → x ≡ red p
-      → Reduces r′ n f (Reading.reduce G (2048 - n) p σ f) o → Does t old put r′ n m σ (turn G (2048 - n) σ f) o
+      → Reduces r′ n f (Reading.reduce G (2048 - n) p σ f) o → Does t old put r′ n m σ f (turn G (2048 - n) σ f) o
   reduces {k} {x} p r′ o d e l z D =
       let w : turn G (2048 - n) σ f ≡ Reading.reduce G (2048 - n) p σ f = is-piece ∙ ap (λ (a : Act). Moves.piece G (2048 - n) a σ (F .prod) (F .kids) (F .rest)) (by-look) ∙ ap (Reading.reduce G (2048 - n) p σ) (sym (F .is)) in
       by o (subst (λ (y : Reading.Turn). Reduces r′ n f y o) (sym w) D)
@@ -253,7 +254,7 @@ module _ {t old put run r : List ℕ} {n m v : ℕ} {σ : Stack} {f : Row} (F : 
       by-look : G .act (top σ) (look 0 (yield f)) ≡ red p
       by-look = ap (G .act (top σ)) (sym l) ∙ sym e ∙ z
 
-      by : (o : Turn) → Reduces r′ n f (turn G (2048 - n) σ f) o → Does t old put r′ n m σ (turn G (2048 - n) σ f) o
+      by : (o : Turn) → Reduces r′ n f (turn G (2048 - n) σ f) o → Does t old put r′ n m σ f (turn G (2048 - n) σ f) o
       by Code.Reduced D = record { stack = D .stack; rest = f; is = D .is; holds = D .holds; listed = list-stands d (F .whole) }
       by Code.NoRoom D = D
       by Code.NoGoto D = D
@@ -270,8 +271,8 @@ module _ {t old put run r : List ℕ} {n m v : ℕ} {σ : Stack} {f : Row} (F : 
     shift : {s : ℕ} → Other (sh s)
 
   pub enters : {k : ℕ} {x : Act} (r′ : List ℕ) (o : Turn) → x ≡ G .act (top σ) k → k ≡ look 0 (yield f) → Other x
-      → Does t old put r′ n m σ (Moves.enter G (2048 - n) σ (F .kids) (F .rest) over) o → Does t old put r′ n m σ (turn G (2048 - n) σ f) o
-  enters {k} {x} r′ o e l y D = subst (λ (w : Reading.Turn). Does t old put r′ n m σ w o) (sym (is-piece ∙ ap (λ (a : Act). Moves.piece G (2048 - n) a σ (F .prod) (F .kids) (F .rest)) (sym (e ∙ ap (G .act (top σ)) l)) ∙ by x y)) D
+      → Does t old put r′ n m σ f (Moves.enter G (2048 - n) σ (F .kids) (F .rest) over) o → Does t old put r′ n m σ f (turn G (2048 - n) σ f) o
+  enters {k} {x} r′ o e l y D = subst (λ (w : Reading.Turn). Does t old put r′ n m σ f w o) (sym (is-piece ∙ ap (λ (a : Act). Moves.piece G (2048 - n) a σ (F .prod) (F .kids) (F .rest)) (sym (e ∙ ap (G .act (top σ)) l)) ∙ by x y)) D
     where
       is-piece : turn G (2048 - n) σ f ≡ Moves.piece G (2048 - n) (G .act (top σ) (look 0 (yield f))) σ (F .prod) (F .kids) (F .rest)
       is-piece = rw (F .is) refl
@@ -280,3 +281,7 @@ module _ {t old put run r : List ℕ} {n m v : ℕ} {σ : Stack} {f : Row} (F : 
       by err error = refl
       by acc accept = refl
       by (sh s) shift = refl
+
+-- ---- the tokens of the list
+pub counting-of : {t old put r : List ℕ} {m : ℕ} {f : Row} → Listed t old put r m f → Counting t old put r m f
+counting-of L = record { few = L .few; pending = L .pending; counted = L .counted; small = L .small }

@@ -10,14 +10,17 @@ ghost use Rattle.definitions.specs.Table.{tableOf};
 ghost use Rattle.definitions.specs.Tree as Tree;
 ghost use Rattle.definitions.specs.Tree.{Row, toks, yield};
 ghost use Rattle.definitions.specs.Reading.{Stack, top, reduce};
-ghost use Rattle.definitions.specs.Moves.{to, standing, breaks, enter, turn};
+ghost use Rattle.definitions.specs.Moves.{to, standing, breaks, enter, turn, reading};
 ghost use Rattle.theory.specs.Records.Flat.{Word, flat, trim};
+ghost use Rattle.answers.specs.Values.{countsOf};
 ghost use Rattle.machine.specs.Room.{statesAt, statesEnd, Holds, put};
 ghost use Rattle.tree.specs.Shaped as Rows;
 ghost use Rattle.updating.specs.Records.{symK, numK, Reads};
 ghost use Rattle.updating.specs.Copy.{Rooted, Copied};
 ghost use Rattle.updating.specs.Shift.{Ripe, Shifts};
 ghost use Rattle.updating.specs.Turns.{turnOf, Reduces, Facing, Listed, Does, Above};
+ghost use Rattle.updating.specs.Running.{Ends, counting};
+use answers::Counts;
 use machine::Act;
 use machine::Goto;
 use machine::Landing;
@@ -249,7 +252,7 @@ fn enter(
         ⌜
         ((put : List ℕ) (σ : Stack) (f : Row) (F : Facing (now (t .entry)) (now (old .entry)) put (now (run .entry)) (now (room .entry)) n m v σ f)
         → s ≡ top σ
-        → Does (now (t .entry)) (now (old .entry)) put (now (room .exit)) n m σ (enter (tableOf (now (t .entry))) (2048 - n) σ (F .kids) (F .rest) (tableOf (now (t .entry)) .goto (top σ) (tableOf (now (t .entry)) .lhs (F .prod)))) r)
+        → Does (now (t .entry)) (now (old .entry)) put (now (room .exit)) n m σ f (enter (tableOf (now (t .entry))) (2048 - n) σ (F .kids) (F .rest) (tableOf (now (t .entry)) .goto (top σ) (tableOf (now (t .entry)) .lhs (F .prod)))) r)
         ⌝ }
     ensures { λ r. ⌜ Above (now (room .entry)) (now (room .exit)) ⌝ }
 {
@@ -290,7 +293,7 @@ fn face(
         ((put : List ℕ) (σ : Stack) (f : Row)
         → Facing (now (t .entry)) (now (old .entry)) put (now (run .entry)) (now (room .entry)) n m v σ f
         → look ≡ Tree.look 0 (yield f)
-        → Does (now (t .entry)) (now (old .entry)) put (now (room .exit)) n m σ (turn (tableOf (now (t .entry))) (2048 - n) σ f) r)
+        → Does (now (t .entry)) (now (old .entry)) put (now (room .exit)) n m σ f (turn (tableOf (now (t .entry))) (2048 - n) σ f) r)
         ⌝ }
     ensures { λ r. ⌜ Above (now (room .entry)) (now (room .exit)) ⌝ }
 {
@@ -327,7 +330,7 @@ fn take_turn<'a>(
         → Holds (now (room .entry)) n σ
         → Listed (now (t .entry)) (now (old .entry)) (now (put .entry)) (now (room .entry)) m f
         → look ≡ Tree.look 0 (yield f)
-        → Does (now (t .entry)) (now (old .entry)) (now (put .entry)) (now (room .exit)) n m σ (turn (tableOf (now (t .entry))) (2048 - n) σ f) r)
+        → Does (now (t .entry)) (now (old .entry)) (now (put .entry)) (now (room .exit)) n m σ f (turn (tableOf (now (t .entry))) (2048 - n) σ f) r)
         ⌝ }
     ensures { λ r. ⌜ Above (now (room .entry)) (now (room .exit)) ⌝ }
 {
@@ -343,4 +346,89 @@ fn take_turn<'a>(
         return plainly(machine::plain(t, room, n, run[0], run[1]));
     }
     face(t, old, run, room, n, m, entry, look)
+}
+
+// ---- the reading of the list
+
+// How a reading ends: accepted, with the nodes held and the five counts; or refused, with the tokens shifted for refusal 7.
+pub enum End {
+    Taken(usize, Counts),
+    NoAction(usize),
+    NoRoom,
+    NoGoto,
+}
+
+// The five counts.
+fn counts(lefts: usize, rights: usize, wholes: usize, shifts: usize, reductions: usize) -> Counts
+    requires { ⌜ (lefts < 4294967296) × (rights < 4294967296) × (wholes < 4294967296) × (shifts < 4294967296) × (reductions < 4294967296) ⌝ }
+    ensures { λ r. ⌜ countsOf r ≡ counting lefts rights wholes shifts reductions ⌝ }
+{
+    Counts {
+        lefts: lefts as u32,
+        rights: rights as u32,
+        wholes: wholes as u32,
+        shifts: shifts as u32,
+        reductions: reductions as u32,
+    }
+}
+
+// The reading of a list of m words, from the empty stack to its end.
+pub fn read_list<'a>(t: &[u8], old: &'a [u32], put: &'a [u32], room: &mut [u32], m: usize) -> End
+    requires { ⌜ Layout (now t) × (16384 ≤ length (now room)) × Rows.Holds (now old) × ((f : Row) × Listed (now t) (now old) (now put) (now room) m f) ⌝ }
+    ensures { λ r.
+        ⌜
+        ((f : Row)
+        → Listed (now (t .entry)) (now (old .entry)) (now (put .entry)) (now (room .entry)) m f
+        → Ends (now (room .exit)) (reading (tableOf (now (t .entry))) 2048 f) r)
+        ⌝ }
+    ensures { λ r. ⌜ Above (now (room .entry)) (now (room .exit)) ⌝ }
+{
+    machine::begin(room);
+    let total = list::tokens_left(old, room, m);
+    let mut n: usize = 0;
+    let mut words = m;
+    let mut next = list::peek(old, put, room, m);
+    let mut lefts: usize = 0;
+    let mut rights: usize = 0;
+    let mut wholes: usize = 0;
+    let mut shifts: usize = 0;
+    let mut reductions: usize = 0;
+    loop {
+        let o = take_turn(t, old, put, room, n, words, next);
+        match o {
+            Turn::Shifted => {
+                n += 1;
+                words -= 1;
+                shifts += 1;
+                next = list::peek(old, put, room, words);
+            }
+            Turn::Reduced => {
+                n += 1;
+                reductions += 1;
+            }
+            Turn::Whole(held, breaks) => {
+                n = held;
+                words -= 1;
+                wholes += 1;
+                rights += breaks;
+                next = list::peek(old, put, room, words);
+            }
+            Turn::Left(left) => {
+                words = left;
+                lefts += 1;
+            }
+            Turn::Taken => {
+                return End::Taken(n, counts(lefts, rights, wholes, shifts, reductions));
+            }
+            Turn::NoAction => {
+                return End::NoAction(total - list::tokens_left(old, room, words));
+            }
+            Turn::NoRoom => {
+                return End::NoRoom;
+            }
+            Turn::NoGoto => {
+                return End::NoGoto;
+            }
+        }
+    }
 }

@@ -47,7 +47,7 @@ returns : tie.Need-returns
 returns c =
     let a = c .before .before .before .before .before .before .before .before .before .before .args in
     let s = c .before .before .before .plain in (
-      λ σ f h L l. subst (λ (o : Turn). Does (a .t .now) (a .old .now) (a .put .now) (s .last .1 .0) (a .n) (a .m) σ (turn (tableOf (a .t .now)) (2048 - a .n) σ f) o) (sym (c .plainly .ensures))
+      λ σ f h L l. subst (λ (o : Turn). Does (a .t .now) (a .old .now) (a .put .now) (s .last .1 .0) (a .n) (a .m) σ f (turn (tableOf (a .t .now)) (2048 - a .n) σ f) o) (sym (c .plainly .ensures))
           (plain-does (s .last .1 .0) (a .n) σ _ _ _ L (s .ensures .1) (s .result) (s .ensures .0 σ h f (nothing-next 0 (c .before .before .before .before .before .if1 .taken) L))),
       above-states (s .ensures .1) (search needs),
     )
@@ -77,7 +77,7 @@ returns-2 : tie.Need-returns-2
 returns-2 c =
     let a = c .before .before .before .before .before .before .before .before .before .before .before .before .before .before .before .args in
     let s = c .before .before .before .plain2 in (
-      λ σ f h L l. subst (λ (o : Turn). Does (a .t .now) (a .old .now) (a .put .now) (s .last .1 .0) (a .n) (a .m) σ (turn (tableOf (a .t .now)) (2048 - a .n) σ f) o) (sym (c .plainly2 .ensures))
+      λ σ f h L l. subst (λ (o : Turn). Does (a .t .now) (a .old .now) (a .put .now) (s .last .1 .0) (a .n) (a .m) σ f (turn (tableOf (a .t .now)) (2048 - a .n) σ f) o) (sym (c .plainly2 .ensures))
           (plain-does (s .last .1 .0) (a .n) σ _ _ _ L (s .ensures .1) (s .result) (s .ensures .0 σ h f (let g = run (c .before .before .before .before .before .before .before) in rw g (at (c .before .before .before .before .before .before .before .before .before .before) σ f h L .code (sym (ap length g) ∙ c .before .before .before .before .before .before .if2 .taken))))),
       above-states (s .ensures .1) (search needs),
     )
@@ -101,7 +101,7 @@ returns-3 : tie.Need-returns-3
 returns-3 c =
     let a = c .before .before .before .before .before .before .before .before .before .before .before .before .before .before .before .before .before .args in
     let s = c .before .before .before .plain3 in (
-      λ σ f h L l. subst (λ (o : Turn). Does (a .t .now) (a .old .now) (a .put .now) (s .last .1 .0) (a .n) (a .m) σ (turn (tableOf (a .t .now)) (2048 - a .n) σ f) o) (sym (c .plainly3 .ensures))
+      λ σ f h L l. subst (λ (o : Turn). Does (a .t .now) (a .old .now) (a .put .now) (s .last .1 .0) (a .n) (a .m) σ f (turn (tableOf (a .t .now)) (2048 - a .n) σ f) o) (sym (c .plainly3 .ensures))
           (plain-does (s .last .1 .0) (a .n) σ _ _ _ L (s .ensures .1) (s .result) (s .ensures .0 σ h f (let g = run (c .before .before .before .before .before .before .before .before .before) in rw g (at (c .before .before .before .before .before .before .before .before .before .before .before .before) σ f h L .token (sym (ap length g) ∙ c .before .before .before .before .before .before .before .if3 .taken))))),
       above-states (s .ensures .1) (search needs),
     )
