@@ -1,10 +1,11 @@
 """Reading afresh, run through the program judge: every stored vector, the cases that document 01 lists, refusals in order where several
-hold at once, and the lent rows after every refusal. The second program is run on the same cases."""
+hold at once, and the lent rows after every refusal. The second program is run on the same cases, and the judge on cases that it makes."""
 import os
+import subprocess
 import sys
 
 sys.path.insert(0, os.path.join(os.path.dirname(os.path.abspath(__file__)), "common"))
-from cases import ROOM, TREE, Tally, build_second, judge, lines, of_read, read_case, run, second, table, threes, vectors
+from cases import ROOM, TREE, Tally, build_second, here, judge, lines, of_read, read_case, run, second, split, table, threes, vectors
 
 house, canonical = table("house.lrt"), table("house.canonical.lrt")
 m, opens, closes = 1, 2, 3
@@ -128,6 +129,9 @@ tally.group("malformed input", said, [run(judge, given) for given in odd])
 if build_second():
     given = b"".join(case for case, _ in every)
     tally.group("the second program on the same cases", [wanted for _, wanted in every], threes(run([second, "judge"], given)))
+    made = subprocess.run([second, "cases", "4", "3000", "--tables", os.path.join(here, "tables")], capture_output=True).stdout
+    given = b"".join(case for case in split(made) if case[:1] == b"R")
+    tally.group("cases that the second program makes", threes(run([second, "judge"], given)), threes(run(judge, given)))
 else:
     tally.group("the second program is built", [True], [False])
 sys.exit(tally.end())

@@ -55,6 +55,20 @@ def of_read(v):
     return case, lines(e["no"], e["place"], e["counts"], tree, e["room"])
 
 
+def split(cases):
+    """The single cases of a row of them, of kinds T, R and U."""
+    fields = {b"T": "b", b"R": "bwnnn", b"U": "bwwwnn"}
+    at, found = 0, []
+    while at < len(cases):
+        start = at
+        at += 1
+        for field in fields[cases[start : start + 1]]:
+            count = struct.unpack_from(">I", cases, at)[0]
+            at += 4 + {"b": count, "w": 4 * count, "n": 0}[field]
+        found.append(cases[start:at])
+    return found
+
+
 def run(program, given):
     """What a program writes, as text."""
     return subprocess.run(program, input=given, capture_output=True).stdout.decode()
