@@ -1,7 +1,9 @@
 // What a call of document 01 answers, as an enum with a case for each row of "Numbers of refusal" and one for acceptance. The
 // number, place and counts that the document has for each case are said once, by `valueOf` of specs/Values.antt.
 ghost use mathlib.Core.Path.{_≡_};
-ghost use Rattle.answers.specs.Values.{valueOf, numberOf, placeOf};
+ghost use Rattle.definitions.specs.Reading.{zeros};
+ghost use Rattle.definitions.specs.Answers.{countsOf as countsIn};
+ghost use Rattle.answers.specs.Values.{countsOf, valueOf, numberOf, placeOf};
 
 // The five counts of an accepted call.
 pub struct Counts {
@@ -72,5 +74,37 @@ pub fn place(a: Answer) -> u32
         Answer::NoRoom => 0,
         Answer::NoGoto => 0,
         Answer::NoNumber => 0,
+    }
+}
+
+// The five counts: zeros for a refusal.
+pub fn counts_of(a: Answer) -> Counts
+    ensures { λ r. ⌜ countsOf r ≡ countsIn (valueOf a) ⌝ }
+{
+    match a {
+        Answer::Accepted(k) => k,
+        Answer::Small => none(),
+        Answer::Layout => none(),
+        Answer::Grammar => none(),
+        Answer::States => none(),
+        Answer::OldTree => none(),
+        Answer::Text => none(),
+        Answer::NoAction(_) => none(),
+        Answer::NoRoom => none(),
+        Answer::NoGoto => none(),
+        Answer::NoNumber => none(),
+    }
+}
+
+// Five zeros.
+fn none() -> Counts
+    ensures { λ r. ⌜ countsOf r ≡ zeros ⌝ }
+{
+    Counts {
+        lefts: 0,
+        rights: 0,
+        wholes: 0,
+        shifts: 0,
+        reductions: 0,
     }
 }

@@ -1,5 +1,5 @@
 -- What a fresh reading tells where it is refused before the text is read, and where it goes on.
-use mathlib.Core.Path.{_≡_, refl, _∙_}
+use mathlib.Core.Path.{_≡_, refl, sym, subst, _∙_}
 use mathlib.Core.List.{List}
 use Prim.Native.Nat.{ℕ, _≤_, _<_}
 use native.Mathlib.Decide.{decLe}
@@ -12,7 +12,7 @@ use Rattle.definitions.specs.Answers.{Told, refusal, if, given, refuse, roomed,
 use Rattle.theory.specs.Check.Judge.{judged}
 use Rattle.theory.specs.Edits.EditsD.{text-in}
 use Rattle.theory.specs.Answers.{readText, afreshIn, afresh, if-yes, if-no, enough, taken-on}
-use Rattle.theory.specs.Demands.Calls.{Checks, takes, two, three, four}
+use Rattle.theory.specs.Demands.Calls.{Checks, takes, two, three, four, Afreshed, afresh-answers}
 
 -- 1
 abbrev pub small : List ℕ → List ℕ → Told
@@ -74,3 +74,7 @@ module _ (t codes : List ℕ) (first : ℕ) (tree room : List ℕ) where
   pub goes-on : 6146 ≤ length tree → 16384 ≤ length room → Accepted t → afresh t codes first tree room ≡ readText t codes first tree room (text-in t codes first)
   unfolding afresh afreshIn
   goes-on h k a = enough tree room _ h k ∙ taken-on t (judged t) a tree room _ _ (λ b. refl)
+
+  -- what equals the call is told as demand 2 has it
+  pub tells : {x : Told} → x ≡ afresh t codes first tree room → (x ≡ afresh t codes first tree room) × Afreshed t codes first tree room x
+  tells e = (e, subst (Afreshed t codes first tree room) (sym e) (afresh-answers t codes first tree room))

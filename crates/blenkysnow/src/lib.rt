@@ -9,6 +9,7 @@ ghost use Rattle.definitions.specs.Answers.{TextInOrder};
 ghost use Rattle.theory.specs.Check.Says.{Says};
 ghost use Rattle.theory.specs.Edits.EditsD.{text-in};
 ghost use Rattle.theory.specs.Answers.{readText, afresh};
+ghost use Rattle.theory.specs.Demands.Calls.{Afreshed};
 ghost use Rattle.reading.specs.Fresh.{told};
 ghost use Rattle.blenkysnow.specs.Text.{Known, Knowns};
 use answers::Answer;
@@ -88,6 +89,10 @@ pub fn read_afresh(
         ⌜
         told r (now (tree .exit)) (now (room .exit))
         ≡ afresh (now (table .entry)) (now (codes .entry)) first (now (tree .entry)) (now (room .entry))
+        ⌝ }
+    ensures { λ r.
+        ⌜
+        Afreshed (now (table .entry)) (now (codes .entry)) first (now (tree .entry)) (now (room .entry)) (told r (now (tree .exit)) (now (room .exit)))
         ⌝ }
 {
     if tree.len() < 6146 {

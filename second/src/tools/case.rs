@@ -22,10 +22,12 @@ impl Lent {
     }
 }
 
+/// A case. A reading's `times` is how often the call is made over the same buffers; more than
+/// once serves to time it.
 #[derive(Clone, PartialEq, Eq, Debug)]
 pub enum Case {
     Table { table: Vec<u8> },
-    Read { table: Vec<u8>, codes: Vec<u32>, first: u32, lent: Lent },
+    Read { table: Vec<u8>, codes: Vec<u32>, first: u32, lent: Lent, times: u32 },
     Update { table: Vec<u8>, row: Vec<u32>, edits: Vec<u32>, put: Vec<u32>, lent: Lent },
 }
 
@@ -36,8 +38,13 @@ impl Case {
                 output.write_all(b"T")?;
                 write_bytes(output, table)
             }
-            Case::Read { table, codes, first, lent } => {
-                output.write_all(b"R")?;
+            Case::Read { table, codes, first, lent, times } => {
+                if *times == 1 {
+                    output.write_all(b"R")?;
+                } else {
+                    output.write_all(b"N")?;
+                    write_number(output, *times)?;
+                }
                 write_bytes(output, table)?;
                 write_words(output, codes)?;
                 write_number(output, *first)?;
@@ -80,18 +87,22 @@ impl Case {
         }
         match read_bytes(input, 1)?[0] {
             b'T' => Ok(Some(Case::Table { table: read_table(input)? })),
-            b'R' => Case::read_read(input).map(Some),
+            b'R' => Case::read_read(input, 1).map(Some),
+            b'N' => {
+                let times = read_number(input)?;
+                Case::read_read(input, times).map(Some)
+            }
             b'U' => Case::read_update(input).map(Some),
             _ => Err(malformed()),
         }
     }
 
-    fn read_read(input: &mut impl Read) -> io::Result<Case> {
+    fn read_read(input: &mut impl Read, times: u32) -> io::Result<Case> {
         let table = read_table(input)?;
         let codes = read_words(input, MOST_CODES)?;
         let first = read_number(input)?;
         let lent = read_lent(input)?;
-        Ok(Case::Read { table, codes, first, lent })
+        Ok(Case::Read { table, codes, first, lent, times })
     }
 
     fn read_update(input: &mut impl Read) -> io::Result<Case> {

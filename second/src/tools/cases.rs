@@ -86,7 +86,7 @@ impl CaseMaker {
         };
         let first = self.first_number(&table, &codes);
         let lent = self.lent();
-        Case::Read { table: self.sometimes_spoiled(table), codes, first, lent }
+        Case::Read { table: self.sometimes_spoiled(table), codes, first, lent, times: 1 }
     }
 
     fn update_case(&mut self) -> Case {

@@ -45,6 +45,7 @@ fn case_of(json: &Json) -> Option<Case> {
             codes: words_of(json.field("codes")?)?,
             first: *words_of(json.field("first")?)?.first()?,
             lent: lent_of(json)?,
+            times: 1,
         }),
         "update" => Some(Case::Update {
             table,

@@ -7,20 +7,20 @@ use Rattle.answers.specs.declared.Answer.the-variants.{Layout, Grammar, States}
 use Rattle.theory.specs.Demands.Calls.{Checks}
 use Rattle.reading.specs.Fresh.{told}
 use Rattle.table.specs.Answer.{number}
-use Rattle.blenkysnow.specs.Afresh.{taken, one-tree, one-room, refused-by, goes-on}
+use Rattle.blenkysnow.specs.Afresh.{taken, one-tree, one-room, refused-by, goes-on, tells}
 use Rattle.blenkysnow.proofs.read_afresh.Statement.{statement}
 use Rattle.blenkysnow.proofs.read_afresh.Tie as tie
 
 returns : tie.Need-returns
 returns c =
     let z = c .if1 .taken in
-    sym (one-tree _ _ _ _ _ (omega arith))
+    tells _ _ _ _ _ (sym (one-tree _ _ _ _ _ (omega arith)))
 
 returns-2 : tie.Need-returns-2
 returns-2 c =
     let z = c .before .if1 .left in
     let y = c .if2 .taken in
-    sym (one-room _ _ _ _ _ (omega arith) (omega arith))
+    tells _ _ _ _ _ (sym (one-room _ _ _ _ _ (omega arith) (omega arith)))
 
 check-table-requires : tie.Need-check-table-requires
 check-table-requires c κs = search needs
@@ -60,8 +60,9 @@ returns-3 c =
     let a = c .before .before .before .before .before .before .before .before .before .before .before .before .before .args in
     let z = c .before .before .before .before .before .before .before .before .if1 .left in
     let y = c .before .before .before .before .before .before .before .if2 .left in
-    ap (told Layout _) (c .before .before .wipe .ensures)
-    ∙ sym (refused-by (a .table .now) (a .codes .now) (a .first) (a .tree .now) (a .room .now) (omega arith) (omega arith) 2 (omega arith) (subst (λ r. Checks (a .table .now) (number r)) (c .before .before .before .before .enum-told .given .1) (c .before .before .before .before .before .before .check-table .ensures .1 .0)))
+    tells _ _ _ _ _
+    (ap (told Layout _) (c .before .before .wipe .ensures)
+    ∙ sym (refused-by (a .table .now) (a .codes .now) (a .first) (a .tree .now) (a .room .now) (omega arith) (omega arith) 2 (omega arith) (subst (λ r. Checks (a .table .now) (number r)) (c .before .before .before .before .enum-told .given .1) (c .before .before .before .before .before .before .check-table .ensures .1 .0))))
 
 same-length-2 : tie.Need-same-length-2
 same-length-2 c = search needs
@@ -71,8 +72,9 @@ returns-4 c =
     let a = c .before .before .before .before .before .before .before .before .before .before .before .before .before .args in
     let z = c .before .before .before .before .before .before .before .before .if1 .left in
     let y = c .before .before .before .before .before .before .before .if2 .left in
-    ap (told Grammar _) (c .before .before .wipe2 .ensures)
-    ∙ sym (refused-by (a .table .now) (a .codes .now) (a .first) (a .tree .now) (a .room .now) (omega arith) (omega arith) 3 (omega arith) (subst (λ r. Checks (a .table .now) (number r)) (c .before .before .before .before .enum-told2 .given .1) (c .before .before .before .before .before .before .check-table .ensures .1 .0)))
+    tells _ _ _ _ _
+    (ap (told Grammar _) (c .before .before .wipe2 .ensures)
+    ∙ sym (refused-by (a .table .now) (a .codes .now) (a .first) (a .tree .now) (a .room .now) (omega arith) (omega arith) 3 (omega arith) (subst (λ r. Checks (a .table .now) (number r)) (c .before .before .before .before .enum-told2 .given .1) (c .before .before .before .before .before .before .check-table .ensures .1 .0))))
 
 same-length-3 : tie.Need-same-length-3
 same-length-3 c = search needs
@@ -82,8 +84,9 @@ returns-5 c =
     let a = c .before .before .before .before .before .before .before .before .before .before .before .before .before .args in
     let z = c .before .before .before .before .before .before .before .before .if1 .left in
     let y = c .before .before .before .before .before .before .before .if2 .left in
-    ap (told States _) (c .before .before .wipe3 .ensures)
-    ∙ sym (refused-by (a .table .now) (a .codes .now) (a .first) (a .tree .now) (a .room .now) (omega arith) (omega arith) 4 (omega arith) (subst (λ r. Checks (a .table .now) (number r)) (c .before .before .before .before .enum-told3 .given .1) (c .before .before .before .before .before .before .check-table .ensures .1 .0)))
+    tells _ _ _ _ _
+    (ap (told States _) (c .before .before .wipe3 .ensures)
+    ∙ sym (refused-by (a .table .now) (a .codes .now) (a .first) (a .tree .now) (a .room .now) (omega arith) (omega arith) 4 (omega arith) (subst (λ r. Checks (a .table .now) (number r)) (c .before .before .before .before .enum-told3 .given .1) (c .before .before .before .before .before .before .check-table .ensures .1 .0))))
 
 same-length-4 : tie.Need-same-length-4
 same-length-4 c = search needs
@@ -95,8 +98,9 @@ returns-6 : tie.Need-returns-6
 returns-6 c =
     let z = c .before .before .before .before .before .before .before .before .before .before .before .if1 .left in
     let y = c .before .before .before .before .before .before .before .before .before .before .if2 .left in
-    c .before .before .before .before .read-taken .ensures
-    ∙ sym (goes-on _ _ _ _ _ (omega arith) (omega arith) (taken (ap number (c .before .before .before .before .before .before .before .enum-told4 .given .1)) (c .before .before .before .before .before .before .before .before .before .check-table .ensures .1 .0)))
+    tells _ _ _ _ _
+    (c .before .before .before .before .read-taken .ensures
+    ∙ sym (goes-on _ _ _ _ _ (omega arith) (omega arith) (taken (ap number (c .before .before .before .before .before .before .before .enum-told4 .given .1)) (c .before .before .before .before .before .before .before .before .before .check-table .ensures .1 .0))))
 
 pub read-afresh-spec : {M : Type 1} → statement M
 read-afresh-spec =

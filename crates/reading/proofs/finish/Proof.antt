@@ -29,7 +29,7 @@ write-requires : tie.Need-write-requires
 write-requires c κs =
     let p = c .before .before .before .before .before .before .before .pre in
     let R = ended (c .before .before .before .before .before .before .before) (p .2 .0) (p .2 .1) (c .before .before .before .e .given .1) in
-    (p .0, p .1, R .small, omega arith)
+    (p .0, p .1, omega (arith, R .small), omega arith)
 
 counts-requires : tie.Need-counts-requires
 counts-requires c κs = let R = ended (c .before .before .before .before .before .before .before .before .before .before) (c .before .before .before .before .before .before .before .before .before .before .pre .2 .0) (c .before .before .before .before .before .before .before .before .before .before .pre .2 .1) (c .before .before .before .before .before .before .e .given .1) in (R .low, R .small)

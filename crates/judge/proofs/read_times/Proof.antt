@@ -1,0 +1,55 @@
+-- `judge::read_times` is safe and ends: the measure is the calls left. Assumes nothing.
+use mathlib.Core.Path.{_≡_}
+use lib.ListN.{length}
+use borrow.Author.Needs.{needs}
+use Rattle.judge.proofs.read_times.Statement.{statement}
+use Rattle.judge.proofs.read_times.Tie as tie
+
+abbrev Inv-loop : tie.InvT-loop
+Inv-loop times table codes first tree₀ room₀ left₀ tree room left = (length tree ≡ length tree₀) × (length room ≡ length room₀)
+
+abbrev μ-loop : tie.MeasureT-loop
+μ-loop times table codes first tree₀ room₀ left₀ tree room left = left
+
+loop-holds : tie.Need-loop-holds Inv-loop μ-loop
+loop-holds c = search needs
+
+read-afresh-requires : tie.Need-read-afresh-requires Inv-loop μ-loop
+read-afresh-requires c κs = search needs
+
+sub-left : tie.Need-sub-left Inv-loop μ-loop
+sub-left c = search needs
+
+loop-less : tie.Need-loop-less Inv-loop μ-loop
+loop-less c = search needs
+
+loop-again : tie.Need-loop-again Inv-loop μ-loop
+loop-again c = search needs
+
+read-afresh-requires-2 : tie.Need-read-afresh-requires-2 Inv-loop μ-loop
+read-afresh-requires-2 c κs = search needs
+
+same-length : tie.Need-same-length Inv-loop μ-loop
+same-length c = search needs
+
+same-length-2 : tie.Need-same-length-2 Inv-loop μ-loop
+same-length-2 c = search needs
+
+returns : tie.Need-returns Inv-loop μ-loop
+returns c = search needs
+
+pub read-times-spec : {M : Type 1} → statement M
+read-times-spec =
+    tie.close
+    (tie.spec
+    Inv-loop
+    μ-loop
+    loop-holds
+    read-afresh-requires
+    sub-left
+    loop-less
+    loop-again
+    read-afresh-requires-2
+    same-length
+    same-length-2
+    returns)

@@ -1,0 +1,2 @@
+-- What the judge knows of its input.
+pub mod Fields
