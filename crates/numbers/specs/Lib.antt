@@ -1,0 +1,3 @@
+-- Kept numbers in code: records and spot words, and how they are found.
+pub mod Records
+pub mod Spots

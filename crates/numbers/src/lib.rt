@@ -1,0 +1,274 @@
+// Kept numbers: the numbers of an accepted new tree, by document 01's rule, and the tree written. The room holds the new tree's records;
+// each gets a spot word, which says where in the old tree its piece stands. All is linear in the nodes.
+ghost use mathlib.Core.Path.{_≡_};
+ghost use Prim.Native.Nat.{_+_, _-_, _*_, _≤_, _<_};
+ghost use lib.ListN.{length};
+ghost use Rattle.theory.specs.Check.Says.{Says};
+ghost use Rattle.numbers.specs.Records.{front, kindOf, numberOf, sizeOf, spotOf, Shape, OldRow, Same, Met, At, Told, Spots, Bares};
+ghost use Rattle.numbers.specs.Spots.{Finds, Leads, Settles, Judging};
+
+// ---- the room's layout: the records of the new tree stand where the machine has them, and the spot word of each where the machine had the
+// states
+
+// Where the spot words start.
+const SPOTS: usize = machine::STATES;
+
+// A spot word that says where a piece stands is its old place and so much, less its new place: above 1 for every two of 2,048 places.
+const SHIFT: usize = 2050;
+
+// A piece that has tokens and stands nowhere in the old tree. Of one without tokens the word is 0.
+const LOST: u32 = 1;
+
+// ---- the records
+
+// The kind of record j: a token's terminal, or 256 + its production.
+fn kind_of(room: &[u32], j: usize) -> usize
+    requires { ⌜ (16384 ≤ length (now room)) × (j < 2048) ⌝ }
+    ensures { λ r. ⌜ (r ≡ kindOf (front (now (room .entry))) j) × (r < 4294967296) ⌝ }
+{
+    tree::wide(room[3 * j])
+}
+
+// Its number: a token's in the old tree, 0 for an inserted one; 0 for a node until its number is kept.
+fn number_of(room: &[u32], j: usize) -> u32
+    requires { ⌜ (16384 ≤ length (now room)) × (j < 2048) ⌝ }
+    ensures { λ r. ⌜ r ≡ numberOf (front (now (room .entry))) j ⌝ }
+{
+    room[3 * j + 1]
+}
+
+// The nodes of the piece that ends with it.
+fn size_of(room: &[u32], j: usize) -> usize
+    requires { ⌜ (16384 ≤ length (now room)) × (j < 2048) ⌝ }
+    ensures { λ r. ⌜ (r ≡ sizeOf (front (now (room .entry))) j) × (r < 4294967296) ⌝ }
+{
+    tree::wide(room[3 * j + 2])
+}
+
+// Its spot word.
+fn spot_of(room: &[u32], j: usize) -> u32
+    requires { ⌜ (16384 ≤ length (now room)) × (j < 2048) ⌝ }
+    ensures { λ r. ⌜ r ≡ spotOf (now (room .entry)) j ⌝ }
+{
+    room[SPOTS + j]
+}
+
+// Whether record j is the old record k: kinds and sizes agree, and numbers where it is a token.
+fn same(old: &[u32], room: &[u32], j: usize, k: usize) -> bool
+    requires { ⌜ (16384 ≤ length (now room)) × (j < 2048) × (2 + 3 * k + 3 ≤ length (now old)) ⌝ }
+    ensures { λ r. ⌜ Says r (Same (now (old .entry)) (front (now (room .entry))) j k) ⌝ }
+{
+    if tree::kind_at(old, k) != kind_of(room, j) {
+        return false;
+    }
+    if tree::size_at(old, k) != size_of(room, j) {
+        return false;
+    }
+    if 256 <= kind_of(room, j) {
+        return true;
+    }
+    tree::number_at(old, k) == number_of(room, j)
+}
+
+// Whether record j is the old record at the shift w.
+fn meets(old: &[u32], room: &[u32], m: usize, j: usize, w: u32) -> bool
+    requires { ⌜ (16384 ≤ length (now room)) × (j < 2048) × (2 + 3 * m ≤ length (now old)) ⌝ }
+    ensures { λ r. ⌜ Says r (Met (now (old .entry)) (front (now (room .entry))) m w j) ⌝ }
+{
+    let at = j + tree::wide(w);
+    if at < SHIFT {
+        return false;
+    }
+    let k = at - SHIFT;
+    if m <= k {
+        return false;
+    }
+    same(old, room, j, k)
+}
+
+// ---- a token's spot
+
+// The first old record from lo up to hi that is record j, or hi.
+fn find(old: &[u32], room: &[u32], j: usize, lo: usize, hi: usize) -> usize
+    requires { ⌜ (16384 ≤ length (now room)) × (j < 2048) × (lo ≤ hi) × (2 + 3 * hi ≤ length (now old)) ⌝ }
+    ensures { λ r. ⌜ Finds (now (old .entry)) (front (now (room .entry))) j lo hi r ⌝ }
+{
+    let mut k = lo;
+    while k < hi {
+        if same(old, room, j, k) {
+            return k;
+        }
+        k += 1;
+    }
+    hi
+}
+
+// The word that says that record j is the old record k.
+fn shifted(j: usize, k: usize) -> u32
+    requires { ⌜ (j < 2048) × (k < 2048) ⌝ }
+    ensures { λ r. ⌜ r + j ≡ 2050 + k ⌝ }
+{
+    (SHIFT + k - j) as u32
+}
+
+// The spot word of record j, a token, sought from the old record `from` on and then before it. Old tokens come in the old order, so the
+// search goes on where the last one was found.
+fn token_spot(old: &[u32], room: &[u32], m: usize, n: usize, j: usize, from: usize) -> u32
+    requires { ⌜ 16384 ≤ length (now room) ⌝ }
+    requires { ⌜ Shape (front (now room)) n ⌝ }
+    requires { ⌜ OldRow (now old) m ⌝ }
+    requires { ⌜ j < n ⌝ }
+    requires { ⌜ from ≤ m ⌝ }
+    requires { ⌜ kindOf (front (now room)) j < 256 ⌝ }
+    ensures { λ r. ⌜ Told (now (old .entry)) (front (now (room .entry))) m j r ⌝ }
+{
+    if number_of(room, j) == 0 {
+        return LOST;
+    }
+    let k = find(old, room, j, from, m);
+    if k < m {
+        return shifted(j, k);
+    }
+    let i = find(old, room, j, 0, from);
+    if i < from {
+        return shifted(j, i);
+    }
+    LOST
+}
+
+// ---- a node's spot
+
+// The spot word of the last child of record j that has tokens, or 0.
+fn lead(room: &[u32], n: usize, j: usize) -> u32
+    requires { ⌜ 16384 ≤ length (now room) ⌝ }
+    requires { ⌜ Shape (front (now room)) n ⌝ }
+    requires { ⌜ j < n ⌝ }
+    requires { ⌜ Bares (front (now room)) (now room) j ⌝ }
+    ensures { λ r. ⌜ Leads (front (now (room .entry))) (now (room .entry)) j r ⌝ }
+{
+    let first = j + 1 - size_of(room, j);
+    let mut e = j;
+    while first < e {
+        let w = spot_of(room, e - 1);
+        if w != 0 {
+            return w;
+        }
+        e -= size_of(room, e - 1);
+    }
+    0
+}
+
+// How many records back from record i on stand at the shift w: its whole piece where its spot says so, itself where its piece has no
+// tokens. 0 where its piece does not stand there.
+fn settled(old: &[u32], room: &[u32], m: usize, n: usize, i: usize, w: u32) -> usize
+    requires { ⌜ 16384 ≤ length (now room) ⌝ }
+    requires { ⌜ Shape (front (now room)) n ⌝ }
+    requires { ⌜ OldRow (now old) m ⌝ }
+    requires { ⌜ i < n ⌝ }
+    requires { ⌜ Told (now old) (front (now room)) m i (spotOf (now room) i) ⌝ }
+    requires { ⌜ 2 ≤ w ⌝ }
+    ensures { λ r. ⌜ Settles (now (old .entry)) (front (now (room .entry))) m i w r ⌝ }
+{
+    let v = spot_of(room, i);
+    if v == w {
+        return size_of(room, i);
+    }
+    if v != 0 {
+        return 0;
+    }
+    if meets(old, room, m, i, w) { 1 } else { 0 }
+}
+
+// Whether the piece that ends with record j stands at the shift w. Records of pieces without tokens are compared here, once each.
+fn agrees(old: &[u32], room: &[u32], m: usize, n: usize, j: usize, w: u32) -> bool
+    requires { ⌜ 16384 ≤ length (now room) ⌝ }
+    requires { ⌜ Shape (front (now room)) n ⌝ }
+    requires { ⌜ OldRow (now old) m ⌝ }
+    requires { ⌜ j < n ⌝ }
+    requires { ⌜ Spots (now old) (front (now room)) m (now room) j ⌝ }
+    requires { ⌜ 2 ≤ w ⌝ }
+    ensures { λ r. ⌜ Says r (At (now (old .entry)) (front (now (room .entry))) m w j) ⌝ }
+{
+    if meets(old, room, m, j, w) {
+        let first = j + 1 - size_of(room, j);
+        let mut e = j;
+        while first < e {
+            let s = settled(old, room, m, n, e - 1, w);
+            if s == 0 {
+                return false;
+            }
+            e -= s;
+        }
+        true
+    } else {
+        false
+    }
+}
+
+// The spot word of record j, a node.
+fn node_spot(old: &[u32], room: &[u32], m: usize, n: usize, j: usize) -> u32
+    requires { ⌜ 16384 ≤ length (now room) ⌝ }
+    requires { ⌜ Shape (front (now room)) n ⌝ }
+    requires { ⌜ OldRow (now old) m ⌝ }
+    requires { ⌜ j < n ⌝ }
+    requires { ⌜ Spots (now old) (front (now room)) m (now room) j ⌝ }
+    requires { ⌜ 256 ≤ kindOf (front (now room)) j ⌝ }
+    ensures { λ r. ⌜ Told (now (old .entry)) (front (now (room .entry))) m j r ⌝ }
+{
+    let w = lead(room, n, j);
+    if w < 2 {
+        return w;
+    }
+    if agrees(old, room, m, n, j, w) {
+        w
+    } else {
+        LOST
+    }
+}
+
+// ---- all spots, forward
+
+// The spot word of record j.
+fn spot(old: &[u32], room: &[u32], m: usize, n: usize, j: usize, from: usize) -> u32
+    requires { ⌜ 16384 ≤ length (now room) ⌝ }
+    requires { ⌜ Shape (front (now room)) n ⌝ }
+    requires { ⌜ OldRow (now old) m ⌝ }
+    requires { ⌜ j < n ⌝ }
+    requires { ⌜ Spots (now old) (front (now room)) m (now room) j ⌝ }
+    requires { ⌜ from ≤ m ⌝ }
+    ensures { λ r. ⌜ Told (now (old .entry)) (front (now (room .entry))) m j r ⌝ }
+{
+    if kind_of(room, j) < 256 {
+        token_spot(old, room, m, n, j, from)
+    } else {
+        node_spot(old, room, m, n, j)
+    }
+}
+
+// Where the next search starts: at the old record of record j where its spot word w has one, else where this one started.
+fn after(w: u32, j: usize, from: usize) -> usize
+    requires { ⌜ (j < 2048) × (2 ≤ w → 2050 ≤ j + w) ⌝ }
+    ensures { λ r. ⌜ (w < 2 → r ≡ from) × (2 ≤ w → r + 2050 ≡ j + w) ⌝ }
+{
+    if w < 2 {
+        return from;
+    }
+    j + tree::wide(w) - SHIFT
+}
+
+// Writes the spot words of the n records.
+fn spots(old: &[u32], room: &mut [u32], m: usize, n: usize)
+    requires { ⌜ 16384 ≤ length (now room) ⌝ }
+    requires { ⌜ Shape (front (now room)) n ⌝ }
+    requires { ⌜ OldRow (now old) m ⌝ }
+    ensures { λ _. ⌜ Judging (now (old .entry)) (now (room .entry)) m (now (room .exit)) n ⌝ }
+{
+    let mut from: usize = 0;
+    let mut j: usize = 0;
+    while j < n {
+        let w = spot(old, room, m, n, j, from);
+        room[SPOTS + j] = w;
+        from = after(w, j, from);
+        j += 1;
+    }
+}
