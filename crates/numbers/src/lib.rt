@@ -3,9 +3,14 @@
 ghost use mathlib.Core.Path.{_≡_};
 ghost use Prim.Native.Nat.{_+_, _-_, _*_, _≤_, _<_};
 ghost use lib.ListN.{length};
+ghost use Rattle.definitions.specs.Tree.{Row, size, NRow, erase};
 ghost use Rattle.theory.specs.Check.Says.{Says};
 ghost use Rattle.numbers.specs.Records.{front, kindOf, numberOf, sizeOf, spotOf, Shape, OldRow, Same, Met, At, Told, Spots, Bares};
 ghost use Rattle.numbers.specs.Spots.{Finds, Leads, Settles, Judging};
+ghost use Rattle.numbers.specs.Given.{Given};
+ghost use Rattle.numbers.specs.Copies.{Reaches, Frame, Copies, Stepped};
+ghost use Rattle.numbers.specs.Back.{Backing};
+ghost use Rattle.numbers.specs.Whole.{Alike, Whole};
 
 // ---- the room's layout: the records of the new tree stand where the machine has them, and the spot word of each where the machine had the
 // states
@@ -271,4 +276,83 @@ fn spots(old: &[u32], room: &mut [u32], m: usize, n: usize)
         from = after(w, j, from);
         j += 1;
     }
+}
+
+// ---- kept numbers, backward
+
+// Gives records a up to b the numbers of the old records at the shift w.
+fn copy(old: &[u32], room: &mut [u32], a: usize, b: usize, w: u32)
+    requires { ⌜ (16384 ≤ length (now room)) × (a ≤ b) × (b ≤ 2048) × Reaches (now old) w a b ⌝ }
+    ensures { λ _. ⌜ Copies (now (old .entry)) (now (room .entry)) a b w (now (room .exit)) ⌝ }
+{
+    let mut i = a;
+    while i < b {
+        room[3 * i + 1] = tree::number_at(old, i + tree::wide(w) - SHIFT);
+        i += 1;
+    }
+}
+
+// One step back from record e: over a piece that stands in the old tree, which takes its numbers there; or over one record, whose number
+// word stands.
+fn back(old: &[u32], room: &mut [u32], e: usize) -> usize
+    requires { ⌜ 16384 ≤ length (now room) ⌝ }
+    requires { ⌜ (0 < e) × (e ≤ 2048) ⌝ }
+    requires { ⌜ sizeOf (front (now room)) (e - 1) ≤ e ⌝ }
+    requires { ⌜ (2 ≤ spotOf (now room) (e - 1) → Reaches (now old) (spotOf (now room) (e - 1)) (e - sizeOf (front (now room)) (e - 1)) e) ⌝ }
+    ensures { λ r. ⌜ Stepped (now (old .entry)) (now (room .entry)) e (now (room .exit)) r ⌝ }
+{
+    let w = spot_of(room, e - 1);
+    if w < 2 {
+        return e - 1;
+    }
+    let a = e - size_of(room, e - 1);
+    copy(old, room, a, e, w);
+    a
+}
+
+// Gives each record the number that it keeps, by the spot words; 0 where it gets a new one.
+fn take_over(old: &[u32], room: &mut [u32], m: usize, n: usize)
+    requires { ⌜ 16384 ≤ length (now room) ⌝ }
+    requires { ⌜ Shape (front (now room)) n ⌝ }
+    requires { ⌜ OldRow (now old) m ⌝ }
+    requires { ⌜ Spots (now old) (front (now room)) m (now room) n ⌝ }
+    ensures { λ _. ⌜ Frame (now (room .entry)) (now (room .exit)) 0 ⌝ }
+    ensures { λ _. ⌜ ((r : NRow) (f : Row) → Given (now (old .entry)) (now (room .entry)) n r f → m ≡ size (erase r) → Backing n r f (now (room .exit)) 0) ⌝ }
+{
+    let mut e = n;
+    while 0 < e {
+        e = back(old, room, e);
+    }
+}
+
+// ---- the whole tree
+
+// Whether record j is no token and is the old record j.
+fn alike(old: &[u32], room: &[u32], j: usize) -> bool
+    requires { ⌜ (16384 ≤ length (now room)) × (j < 2048) × (2 + 3 * j + 3 ≤ length (now old)) ⌝ }
+    ensures { λ r. ⌜ Says r (Alike (now (old .entry)) (front (now (room .entry))) j) ⌝ }
+{
+    if kind_of(room, j) < 256 {
+        return false;
+    }
+    same(old, room, j, j)
+}
+
+// Whether the new tree has no tokens and is the old tree.
+fn whole(old: &[u32], room: &[u32], m: usize, n: usize) -> bool
+    requires { ⌜ (16384 ≤ length (now room)) × (n ≤ 2048) × (2 + 3 * m ≤ length (now old)) ⌝ }
+    ensures { λ r. ⌜ Says r (Whole (now (old .entry)) (front (now (room .entry))) m n) ⌝ }
+{
+    if m != n {
+        return false;
+    }
+    let mut j: usize = 0;
+    while j < n {
+        if alike(old, room, j) {
+            j += 1;
+        } else {
+            return false;
+        }
+    }
+    true
 }
