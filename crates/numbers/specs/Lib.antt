@@ -1,4 +1,4 @@
--- Kept numbers in code: records and spot words, how they are found, what they mean, and the backward pass.
+-- Kept numbers in code: records and spot words, how they are found, what they mean, the backward pass, and the words written.
 pub mod Records
 pub mod Spots
 pub mod Pointwise
@@ -8,3 +8,5 @@ pub mod Verdicts
 pub mod Copies
 pub mod Back
 pub mod Whole
+pub mod Write
+pub mod Renumber
