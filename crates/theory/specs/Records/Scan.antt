@@ -218,7 +218,8 @@ close W q n (spot p) = tested (optD (getElem? W (p + n)) (wnod q (suc n))) (spot
 close W q n lost = lost
 
 module _ (W : List Word) (locate : Tok → Option ℕ) where
-  abbrev Node : ℕ → Row → ℕ → Type 0
+  -- the piece of q over c stands at p
+  abbrev pub Node : ℕ → Row → ℕ → Type 0
   Node q c p = Stand W p c × (getElem? W (p + size c) ≡ some (wnod q (suc (size c))))
 
   nodeD : (q : ℕ) (c : Row) (p : ℕ) → Dec (Node q c p)
@@ -273,30 +274,32 @@ module _ (old : NRow) (n : ℕ) (O : Fit n old) (locate : Tok → Option ℕ) (L
   Judged q c (spot p) = (i : ℕ) × (d : NRow) × (judge old q c ≡ copy i d) × Placed old q i d p
   Judged q c lost = judge old q c ≡ new!
 
+  module _ (q : ℕ) (c : Row) where
+    none-stands : ((p : ℕ) → Stand (recs old) p (nod q c ∅) → ⊥) → (v : Verdict) → judge old q c ≡ v → v ≡ new!
+    none-stands h (copy i d) e =
+        let s = judge-copies old {q = q} {c = c} e in
+        let r = placed (s .0) in absurd (h (r .0) (subst (λ x. Stand (recs old) (r .0) (nod q x ∅)) (s .1) (r .1 .stands)))
+    none-stands h (keep i) e = absurd (judge-keep old q c e)
+    none-stands h new! e = refl
+
+    none-tokens : toks c ≡ 0 → (v : Verdict) → judge old q c ≡ v → v ≡ new!
+    none-tokens h (copy i d) e = absurd (omega (arith, judge-copies old {q = q} {c = c} e .2))
+    none-tokens h (keep i) e = absurd (judge-keep old q c e)
+    none-tokens h new! e = refl
+
+    -- whatever finds it, a good spot says the judgement
+    pub judged-at : (s : Spot) → Good (λ p. Node (recs old) locate q c p) (toks c) s → Judged q c s
+    judged-at bare g = none-tokens g (judge old q c) refl
+    judged-at (spot p) g =
+        let r = old-piece q c old p (g .1, tt) in
+        let t = placed (r .2) in
+        let u : Stand (recs old) (t .0) c = subst (λ x. Stand (recs old) (t .0) x) (r .3) (t .1 .stands .0 .0) in
+        let e : t .0 ≡ p = one-place (recs old) locate L c (t .0) p (g .0) u (g .1 .0) in
+        (r .0, r .1, judge-finds old O c (r .2) (r .3) (g .0), subst (λ x. Placed old q (r .0) (r .1) x) e (t .1))
+    judged-at lost g = none-stands (λ p s. g .1 p (s .0)) (judge old q c) refl
+
   pub judges : (q : ℕ) (c : Row) → Judged q c (close (recs old) q (size c) (scan (recs old) locate c))
-  judges q c = by (close (recs old) q (size c) (scan (recs old) locate c)) (closes (recs old) locate L q c (scan (recs old) locate c) (scans (recs old) locate L c))
-    where
-      none-stands : ((p : ℕ) → Stand (recs old) p (nod q c ∅) → ⊥) → (v : Verdict) → judge old q c ≡ v → v ≡ new!
-      none-stands h (copy i d) e =
-          let s = judge-copies old {q = q} {c = c} e in
-          let r = placed (s .0) in absurd (h (r .0) (subst (λ x. Stand (recs old) (r .0) (nod q x ∅)) (s .1) (r .1 .stands)))
-      none-stands h (keep i) e = absurd (judge-keep old q c e)
-      none-stands h new! e = refl
-
-      none-tokens : toks c ≡ 0 → (v : Verdict) → judge old q c ≡ v → v ≡ new!
-      none-tokens h (copy i d) e = absurd (omega (arith, judge-copies old {q = q} {c = c} e .2))
-      none-tokens h (keep i) e = absurd (judge-keep old q c e)
-      none-tokens h new! e = refl
-
-      by : (s : Spot) → Good (λ p. Node (recs old) locate q c p) (toks c) s → Judged q c s
-      by bare g = none-tokens g (judge old q c) refl
-      by (spot p) g =
-          let r = old-piece q c old p (g .1, tt) in
-          let t = placed (r .2) in
-          let u : Stand (recs old) (t .0) c = subst (λ x. Stand (recs old) (t .0) x) (r .3) (t .1 .stands .0 .0) in
-          let e : t .0 ≡ p = one-place (recs old) locate L c (t .0) p (g .0) u (g .1 .0) in
-          (r .0, r .1, judge-finds old O c (r .2) (r .3) (g .0), subst (λ x. Placed old q (r .0) (r .1) x) e (t .1))
-      by lost g = none-stands (λ p s. g .1 p (s .0)) (judge old q c) refl
+  judges q c = judged-at q c (close (recs old) q (size c) (scan (recs old) locate c)) (closes (recs old) locate L q c (scan (recs old) locate c) (scans (recs old) locate L c))
 
 -- ---- for a loop that walks the children from the last back by their sizes: any way of putting spots together that is good is the same
 pub flat-append : (f g : Row) → flat (f ⧺ g) ≡ flat f ++ flat g

@@ -130,11 +130,11 @@ raised-append [] b n = refl
 raised-append (none ∷ a) b n = raised-append a b (suc n)
 raised-append (some i ∷ a) b n = raised-append a b n
 
-assign-given : (l : List ℕ) (n : ℕ) → assign (given l) n ≡ l
+pub assign-given : (l : List ℕ) (n : ℕ) → assign (given l) n ≡ l
 assign-given [] n = refl
 assign-given (i ∷ l) n = ap (i ∷_) (assign-given l n)
 
-raised-given : (l : List ℕ) (n : ℕ) → raised (given l) n ≡ n
+pub raised-given : (l : List ℕ) (n : ℕ) → raised (given l) n ≡ n
 raised-given [] n = refl
 raised-given (i ∷ l) n = raised-given l n
 
