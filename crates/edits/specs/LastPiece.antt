@@ -9,9 +9,8 @@ use Rattle.definitions.specs.Tree.{Tok, Row, ∅, tok, nod, _⧺_, row, yield, 
 use Rattle.definitions.specs.Reading.{Tree, leaf, node, cons}
 use Rattle.definitions.specs.Moves.{pick}
 use Rattle.definitions.specs.Edits.{Mark, mark}
+use Rattle.theory.specs.Machine.Rows.{append-∅, toks-length, row-assoc}
 use Rattle.theory.specs.Edits.FromMarks.{skip, lead, clean, whole?, pieces}
-use Rattle.theory.specs.Machine.Rows.{append-∅, toks-length}
-use Rattle.list.specs.Opening.{row-assoc}
 
 skip-nil : (u : List Tok) → skip u [] ≡ []
 skip-nil [] = refl

@@ -13,13 +13,13 @@ use Rattle.definitions.specs.Reading.{Tree, leaf, node, cons}
 use Rattle.definitions.specs.Edits.{putIn, inserted, Mark, marks}
 use Rattle.theory.specs.Check.Says.{Says, says-as}
 use Rattle.theory.specs.Edits.FromMarks.{skip, lead, clean, pieces}
-use Rattle.theory.specs.Machine.Rows.{toks-length, size-append}
+use Rattle.theory.specs.Machine.Rows.{toks-length, toks-append, row-assoc, size-append}
 use Rattle.theory.specs.Tree.Build.{join}
 use Rattle.tree.specs.Rows.{kindAt, sizeAt}
 use Rattle.tree.specs.Tokens.{tokens}
 use Rattle.list.specs.Pieces.{Forest, Piece, Ending, ending, Root, root, root-real, inside, erase-join, tokens-forest}
 use Rattle.list.specs.Pending.{listAt, tokensAt, Pending, piece, pending-stands, pending-toks, Counted}
-use Rattle.list.specs.Opening.{Elsewhere, unmoved, pushes, row-assoc, toks-append, cons-row, some-size}
+use Rattle.list.specs.Opening.{Elsewhere, unmoved, pushes, cons-row, some-size}
 use Rattle.edits.specs.Before.{putBefore, put-at, put-grows, put-within, length-inserted}
 use Rattle.edits.specs.CleanMarks.{skip-marks, clean-marks}
 use Rattle.edits.specs.LastPiece.{pieces-append, piece-none, piece-clean, token-gone, node-broken}

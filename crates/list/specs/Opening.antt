@@ -9,16 +9,11 @@ use Rattle.definitions.specs.Sheet.{T}
 use Rattle.definitions.specs.Tree.{Tok, Row, ∅, tok, nod, _⧺_, size, toks, yield, NRow, ε, ntok, nnod, erase}
 use Rattle.definitions.specs.Reading.{Tree, leaf, node, cons}
 use Rattle.definitions.specs.Moves.{pick, tokened}
-use Rattle.theory.specs.Machine.Rows.{toks-length, yield-append, size-append}
+use Rattle.theory.specs.Machine.Rows.{toks-length, toks-append, row-assoc, size-append}
 use Rattle.tree.specs.Rows.{sizeAt}
 use Rattle.tree.specs.Tokens.{tokens}
 use Rattle.list.specs.Pieces.{Forest, Piece, Ending, ending, Root, root, Inside, inside, tokens-of}
 use Rattle.list.specs.Pending.{listAt, tokensAt, Pending, piece, pending-stands, pending-toks, Counted}
-
-pub row-assoc : (f g h : Row) → (f ⧺ g) ⧺ h ≡ f ⧺ (g ⧺ h)
-row-assoc ∅ g h = refl
-row-assoc (tok x f) g h = ap (tok x) (row-assoc f g h)
-row-assoc (nod q c f) g h = ap (nod q c) (row-assoc f g h)
 
 pub cons-row : (x : Tree) (f : Row) → cons x ∅ ⧺ f ≡ cons x f
 cons-row (leaf x) f = refl
@@ -100,11 +95,6 @@ opened {t} {old} {put} {r} {start} {m} {g} O = by (O .left) (O .at) (O .is)
     by ε a e = subst (Pending t old put r m) e (O .pending)
     by (ntok k i f) a e = absurd (omega arith)
     by (nnod q i c f) a e = absurd (omega arith)
-
-pub toks-append : (f g : Row) → toks (f ⧺ g) ≡ toks f + toks g
-toks-append ∅ g = omega arith
-toks-append (tok x f) g = omega (arith, toks-append f g)
-toks-append (nod q c f) g = omega (arith, toks-append f g)
 
 pub some-size : (x : Tree) → 0 < size (cons x ∅)
 some-size (leaf x) = omega arith

@@ -13,15 +13,12 @@ use Rattle.tree.specs.Rows.{length-words}
 use Rattle.tree.specs.Shaped.{Holds}
 use Rattle.list.specs.Pieces.{Piece}
 use Rattle.list.specs.Pending.{listAt, Pending, Next, old-piece, new-code, next}
+use Rattle.list.specs.Opening.{some-size}
 use Rattle.list.specs.Runs.{Fits, runOf, piece-fits, run-piece, code-fits, run-code, firstOf, first-words}
 
 pub yield-cons : (x : Tree) (f : Row) → yield (cons x f) ≡ yield (cons x ∅) ++ yield f
 yield-cons (leaf x) f = refl
 yield-cons (node q c) f = rw mathlib.Core.List.append-nil refl
-
-some-size : (x : Tree) → 0 < size (cons x ∅)
-some-size (leaf x) = omega arith
-some-size (node q c) = omega arith
 
 -- the first of some tokens does not depend on what comes after them
 first-some : (a b : ℕ) (u : List Tok) → 0 < length u → look a u ≡ look b u

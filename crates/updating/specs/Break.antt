@@ -10,7 +10,7 @@ use Rattle.definitions.specs.Table.{Table}
 use Rattle.definitions.specs.Tree.{Tok, Row, ∅, tok, nod, _⧺_, size, toks}
 use Rattle.definitions.specs.Reading.{Tree, leaf, node, cons}
 use Rattle.definitions.specs.Moves.{standing, breaks}
-use Rattle.theory.specs.Machine.Rows.{size-append}
+use Rattle.theory.specs.Machine.Rows.{size-append, toks-append}
 use Rattle.theory.specs.Records.Flat.{Word, wtok, wnod, flat, length-flat, trim, grow}
 use Rattle.theory.specs.Records.Stand.{at-right}
 use Rattle.theory.specs.Records.Scan.{flat-append, Last, empty, ends, last}
@@ -102,11 +102,6 @@ pub record Breaking (f : Row) (m k pos : ℕ) : Type 0 where
 
 pub all-left : (f : Row) (m pos : ℕ) → m ≡ standing f → pos ≡ size f → 0 < toks f → Breaking f m 0 pos
 all-left f m pos e p h = record { left = f; back = []; is = append-nil (flat f); many = p; stands = e; some = h; counted = omega arith }
-
-toks-append : (f g : Row) → toks (f ⧺ g) ≡ toks f + toks g
-toks-append ∅ g = omega arith
-toks-append (tok x f) g = omega (arith, toks-append f g)
-toks-append (nod q c f) g = omega (arith, toks-append f g)
 
 -- all that is left stands
 pub none-left : {f : Row} {m k : ℕ} → Breaking f m k m → breaks f ≡ k

@@ -8,3 +8,4 @@ pub mod Turns
 pub mod Next
 pub mod Shrink
 pub mod Running
+pub mod Finish

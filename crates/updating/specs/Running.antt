@@ -58,7 +58,7 @@ pub record Accepts (r : List ℕ) (d : Done) (n : ℕ) (k : Counts) : Type 0 whe
 
 abbrev pub Ends : List ℕ → Done → EndOf.End → Type 0
 Ends r d (Taken n k) = Accepts r d n (countsOf k)
-Ends r d (NoAction i) = d .end ≡ refused 7 i
+Ends r d (NoAction i) = (d .end ≡ refused 7 i) × (i ≤ 2048)
 Ends r d NoRoom = d .end ≡ refused 8 0
 Ends r d NoGoto = d .end ≡ refused 10 0
 

@@ -8,18 +8,23 @@ ghost use lib.ListN.{length, getD, getElem?, drop};
 ghost use Rattle.definitions.specs.Sheet.{P, Layout};
 ghost use Rattle.definitions.specs.Table.{tableOf};
 ghost use Rattle.definitions.specs.Tree as Tree;
-ghost use Rattle.definitions.specs.Tree.{Row, toks, yield};
+ghost use Rattle.definitions.specs.Tree.{Row, toks, yield, NRow};
 ghost use Rattle.definitions.specs.Reading.{Stack, top, reduce};
 ghost use Rattle.definitions.specs.Moves.{to, standing, breaks, enter, turn, reading};
+ghost use Rattle.definitions.specs.Edits.{Edit};
+ghost use Rattle.definitions.specs.Answers.{cleared, finished};
 ghost use Rattle.theory.specs.Records.Flat.{Word, flat, trim};
 ghost use Rattle.answers.specs.Values.{countsOf};
 ghost use Rattle.machine.specs.Room.{statesAt, statesEnd, Holds, put};
+ghost use Rattle.reading.specs.Fresh.{told};
 ghost use Rattle.tree.specs.Shaped as Rows;
 ghost use Rattle.updating.specs.Records.{symK, numK, Reads};
 ghost use Rattle.updating.specs.Copy.{Rooted, Copied};
 ghost use Rattle.updating.specs.Shift.{Ripe, Shifts};
 ghost use Rattle.updating.specs.Turns.{turnOf, Reduces, Facing, Listed, Does, Above};
 ghost use Rattle.updating.specs.Running.{Ends, counting};
+ghost use Rattle.updating.specs.Finish.{Judged, done, numbers};
+use answers::Answer;
 use answers::Counts;
 use machine::Act;
 use machine::Goto;
@@ -431,4 +436,62 @@ pub fn read_list<'a>(t: &[u8], old: &'a [u32], put: &'a [u32], room: &mut [u32],
             }
         }
     }
+}
+
+// ---- the update
+
+// The answer by the reading's end; the tree with its numbers where it is accepted and they suffice.
+fn finish(e: End, old: &[u32], tree: &mut [u32], room: &mut [u32]) -> Answer
+    requires { ⌜
+        (6146 ≤ length (now tree))
+        × (16384 ≤ length (now room))
+        × ((t edits put : List ℕ) × (r : NRow) × (es : List Edit) × (J : Judged t (now old) edits put r es) × Ends (now room) (done J) e)
+        ⌝ }
+    ensures { λ a.
+        ⌜
+        ((t edits put lent : List ℕ) (r : NRow) (es : List Edit) (J : Judged t (now (old .entry)) edits put r es)
+        → Ends (now (room .entry)) (done J) e
+        → told a (now (tree .exit)) (cleared lent) ≡ finished (now (tree .entry)) lent (numbers J) (done J))
+        ⌝ }
+    ensures { λ a. ⌜ drop statesEnd (now (room .exit)) ≡ drop statesEnd (now (room .entry)) ⌝ }
+{
+    match e {
+        End::Taken(n, k) => {
+            if numbers::finish(old, tree, room, n) {
+                return Answer::Accepted(k);
+            }
+            Answer::NoNumber
+        }
+        End::NoAction(i) => Answer::NoAction(i as u32),
+        End::NoRoom => Answer::NoRoom,
+        End::NoGoto => Answer::NoGoto,
+    }
+}
+
+// A tree in order updated by edits in order, under an accepted table and with room enough: the answer, the tree written if it is accepted, the
+// room cleared.
+pub fn update_tree<'a>(
+    t: &[u8],
+    old: &'a [u32],
+    edits: &[u32],
+    put: &'a [u32],
+    tree: &mut [u32],
+    room: &mut [u32],
+) -> Answer
+    requires { ⌜
+        (6146 ≤ length (now tree))
+        × (16384 ≤ length (now room))
+        × ((r : NRow) × (es : List Edit) × Judged (now t) (now old) (now edits) (now put) r es)
+        ⌝ }
+    ensures { λ a.
+        ⌜
+        ((r : NRow) (es : List Edit) (J : Judged (now (t .entry)) (now (old .entry)) (now (edits .entry)) (now (put .entry)) r es)
+        → told a (now (tree .exit)) (now (room .exit)) ≡ finished (now (tree .entry)) (now (room .entry)) (numbers J) (done J))
+        ⌝ }
+{
+    let m = edits::make_list(old, edits, put, room);
+    let e = read_list(t, old, put, room, m);
+    let a = finish(e, old, tree, room);
+    machine::wipe(room);
+    a
 }

@@ -85,13 +85,17 @@ module _ (t : List ℕ) (A : Accepted t) (old edits codes : List ℕ) (r : NRow)
   abbrev pub numbers : Row → NRow × ℕ
   numbers = renumber (judge r) r (getD old 1 0)
 
-  known : Known (T t) text
+  pub known : Known (T t) text
   known = known-text (T t) (yield (erase r)) es codes (E .known) (known-kinds (T t) r (O .kinds))
 
-  list-ends : list .end ≡ run (tableOf t) 2048 bot text
+  pub list-ends : list .end ≡ run (tableOf t) 2048 bot text
   list-ends =
       same-reading (tableOf t) (rules-of t A) (conditions-of t A) 2048 (readingList (erase r) es codes) (valid-list (tableOf t) (O .derives) es codes)
       ∙ ap (run (tableOf t) 2048 bot) (yield-list (erase r) es codes)
+
+  -- what the reading of the list comes to
+  pub list-reads : Reads t text (list .end)
+  list-reads = rw list-ends (run-reads t A text (known-real (T t) text known))
 
   -- the tree f was read
   kept-by : {f : Row} → Derivation t text f → Kept r Nothing (getD old 1 0) f (numbers f .0) (numbers f .1)
@@ -119,7 +123,7 @@ module _ (t : List ℕ) (A : Accepted t) (old edits codes : List ℕ) (r : NRow)
   ended (refused n i) (full g) = eight g
 
   pub list-tells : Updated t r (getD old 1 0) text tree room (finished tree room numbers list)
-  list-tells = ended (list .end) (rw list-ends (run-reads t A text (known-real (T t) text known)))
+  list-tells = ended (list .end) list-reads
 
   -- the edited text is in order for a fresh reading
   pub fresh-text : TextInOrder t (kinds text) 1
@@ -144,7 +148,7 @@ module _ (t : List ℕ) (A : Accepted t) (old edits codes : List ℕ) (r : NRow)
     pub list-as-afresh : AsAfresh tree room (finished tree room numbers list) (afresh t (kinds text) 1 tree room)
     list-as-afresh =
         rw (fresh-told t A (kinds text) 1 fresh-text tree room wide roomy, fresh-ends)
-        (by (list .end) refl (rw list-ends (run-reads t A text (known-real (T t) text known))))
+        (by (list .end) refl list-reads)
       where
         fresh : Done
         fresh = done t A (kinds text) 1 fresh-text tree room

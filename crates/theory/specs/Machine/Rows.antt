@@ -44,6 +44,16 @@ size-append ∅ g = omega arith
 size-append (tok x f) g = omega (arith, size-append f g)
 size-append (nod q c f) g = omega (arith, size-append f g)
 
+pub row-assoc : (f g h : Row) → (f ⧺ g) ⧺ h ≡ f ⧺ (g ⧺ h)
+row-assoc ∅ g h = refl
+row-assoc (tok x f) g h = ap (tok x) (row-assoc f g h)
+row-assoc (nod q c f) g h = ap (nod q c) (row-assoc f g h)
+
+pub toks-append : (f g : Row) → toks (f ⧺ g) ≡ toks f + toks g
+toks-append ∅ g = omega arith
+toks-append (tok x f) g = omega (arith, toks-append f g)
+toks-append (nod q c f) g = omega (arith, toks-append f g)
+
 pub toks-length : (f : Row) → toks f ≡ length (yield f)
 toks-length ∅ = refl
 toks-length (tok x f) = ap suc (toks-length f)

@@ -8,6 +8,7 @@ use native.Mathlib.Decide.{ℕ-discrete, decLe, decLt}
 use lib.ListN.{length, getElem?}
 use Rattle.definitions.specs.Tree.{Tok, mk, Row, ∅, tok, nod, _⧺_, size, NRow, ε, ntok, nnod, erase, toks, Fit, nums}
 use Rattle.theory.specs.Decide.{mapD, andD, tokD}
+use Rattle.theory.specs.Machine.Rows.{toks-append}
 use Rattle.definitions.specs.Numbers.{Sub, here, under, later, past}
 use Rattle.theory.specs.Numbers.Number.{Verdict, copy, keep, new!, judge}
 use Rattle.definitions.specs.Reading.{Tree, leaf, node, cons}
@@ -345,11 +346,6 @@ good-one n u (spot p) lost g h = absurd (h .1 p (g .1))
 good-one n u lost bare g h = absurd (omega (arith, g .0))
 good-one n u lost (spot o) g h = absurd (g .1 o (h .1))
 good-one n u lost lost g h = refl
-
-toks-append : (f g : Row) → toks (f ⧺ g) ≡ toks f + toks g
-toks-append ∅ g = omega arith
-toks-append (tok x f) g = omega (arith, toks-append f g)
-toks-append (nod q c f) g = omega (arith, toks-append f g)
 
 good-map : {A B : ℕ → Type 0} (n m : ℕ) → n ≡ m → ((p : ℕ) → A p → B p) → ((p : ℕ) → B p → A p) → (s : Spot) → Good A n s → Good B m s
 good-map n m e a b bare g = omega (arith, g)

@@ -73,6 +73,13 @@ shifted-then c f L =
     let d = did (c .before .before .before .before .before .before) f L (c .before .before .enum-told4 .given .1) in
     omega (arith, R .tokens, c .tokens-left2 .ensures (a .t .now) (a .put .now) (R .rest) (counting-of (d .1)), c .before .before .before .before .before .before .before .before .before .before .before .tokens-left .ensures (a .t .now) (a .put .now) f (counting-of L))
 
+-- all tokens are few
+total-few : (c : tie.After-tokens-left2 Inv-loop μ-loop) → c .before .before .before .before .before .before .before .before .before .before .before .tokens-left .result ≤ 2048
+total-few c =
+    let a = c .before .before .before .before .before .before .before .before .before .before .before .before .before .before .before .before .before .before .before .before .before .args in
+    let L = first (c .before .before .before .before .before .before .before .before) in
+    omega (arith, c .before .before .before .before .before .before .before .before .before .before .before .tokens-left .ensures (a .t .now) (a .put .now) _ (counting-of L), L .small)
+
 begin-requires : tie.Need-begin-requires Inv-loop μ-loop
 begin-requires c κs = search needs
 
@@ -241,7 +248,8 @@ returns-2 c = (
       let R = c .before .before .before .before .before .before .before .before .loop .inv f M in
       let d = did (c .before .before .before .before .before .before) f M (c .before .before .enum-told4 .given .1) in
       let h = shifted-then c f M in
-      ap (λ (x : Done). x .end) (ends R (d .0)) ∙ ap (λ (i : ℕ). refused 7 i) (omega arith),
+      let w = total-few c in
+      (ap (λ (x : Done). x .end) (ends R (d .0)) ∙ ap (λ (i : ℕ). refused 7 i) (omega arith), omega arith),
   above-then (c .before .before .before .before .before .before),
 )
 
