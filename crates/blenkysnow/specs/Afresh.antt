@@ -12,17 +12,19 @@ use Rattle.definitions.specs.Answers.{Told, refusal, if, given, refuse, roomed,
 use Rattle.theory.specs.Check.Judge.{judged}
 use Rattle.theory.specs.Edits.EditsD.{text-in}
 use Rattle.theory.specs.Answers.{readText, afreshIn, afresh, if-yes, if-no, enough, taken-on}
-use Rattle.theory.specs.Demands.Calls.{Checks, takes, two, three, four, Afreshed, afresh-answers}
+use Rattle.theory.specs.Demands.Calls.{Checks, takes, two, three, four, Enough, Afreshed, afresh-answers}
 
 -- 1
 abbrev pub small : List ℕ → List ℕ → Told
 small tree room = record { answer = refusal 1 0; tree = tree; room = room }
 
-pub tree-small : (tree room : List ℕ) (x : Told) → length tree < 6146 → roomed tree room x ≡ small tree room
-tree-small tree room x h = if-no (decLe 6146 (length tree)) _ _ (λ k. omega arith)
-
-pub room-small : (tree room : List ℕ) (x : Told) → 6146 ≤ length tree → length room < 16384 → roomed tree room x ≡ small tree room
-room-small tree room x h k = if-yes (decLe 6146 (length tree)) _ _ h ∙ if-no (decLe 16384 (length room)) _ _ (λ l. omega arith)
+pub short : (tree room : List ℕ) (x : Told) → (Enough tree room → ⊥) → roomed tree room x ≡ small tree room
+short tree room x n = by (decLe 6146 (length tree)) (decLe 16384 (length room))
+  where
+    by : (d : Dec (6146 ≤ length tree)) (e : Dec (16384 ≤ length room)) → if d (if e x (small tree room)) (small tree room) ≡ small tree room
+    by (yes h) (yes k) = absurd (n (record { wide = h; roomy = k }))
+    by (yes h) (no k) = refl
+    by (no h) e = refl
 
 -- 2, 3 and 4, whatever made the judgements
 module _ (t : List ℕ) (j : Judged t) (tree room : List ℕ) (f : Accepted t → Told) where
@@ -53,13 +55,9 @@ taken e (four l g s) = absurd (omega arith)
 -- ---- the call
 
 module _ (t codes : List ℕ) (first : ℕ) (tree room : List ℕ) where
-  pub one-tree : length tree < 6146 → afresh t codes first tree room ≡ small tree room
+  pub too-short : (Enough tree room → ⊥) → afresh t codes first tree room ≡ small tree room
   unfolding afresh
-  one-tree h = tree-small tree room _ h
-
-  pub one-room : 6146 ≤ length tree → length room < 16384 → afresh t codes first tree room ≡ small tree room
-  unfolding afresh
-  one-room h k = room-small tree room _ h k
+  too-short n = short tree room _ n
 
   abbrev on : Accepted t → Told
   on a = readText t codes first tree room (text-in t codes first)

@@ -18,12 +18,12 @@ use Rattle.theory.specs.Tree.InOrderD.{tree-in, one-tree}
 use Rattle.theory.specs.Edits.EditsD.{edits-in}
 use Rattle.theory.specs.Answers.{readList, updateIn, update, enough, taken-on}
 use Rattle.theory.specs.Demands.Update as Demand
-use Rattle.theory.specs.Demands.Calls.{Checks, takes, two, three, four, UpdatedAll, update-answers}
+use Rattle.theory.specs.Demands.Calls.{Checks, takes, two, three, four, Enough, UpdatedAll, update-answers}
 use Rattle.tree.specs.Rows.{holds-stands}
 use Rattle.tree.specs.Tokens.{tokens}
 use Rattle.list.specs.Pieces.{all-old, tokens-forest}
 use Rattle.updating.specs.Finish.{Judged, numbers, done}
-use Rattle.blenkysnow.specs.Afresh.{small, tree-small, room-small, told-2, told-3, told-4}
+use Rattle.blenkysnow.specs.Afresh.{small, short, told-2, told-3, told-4}
 
 given-none : {A : Type 0} {B : Type 0} (d : Dec A) (f : A → B) (y : B) → (A → ⊥) → given d f y ≡ y
 given-none (yes a) f y n = absurd (n a)
@@ -37,13 +37,9 @@ old-tokens t old r few O = tokens-forest (getD old 0 0) r few (all-old O) (ends 
     ends O = omega (arith, holds-stands old r (O .holds) .0 .0)
 
 module _ (t old edits codes tree room : List ℕ) where
-  pub one-tree′ : length tree < 6146 → update t old edits codes tree room ≡ small tree room
+  pub too-short′ : (Enough tree room → ⊥) → update t old edits codes tree room ≡ small tree room
   unfolding update
-  one-tree′ h = tree-small tree room _ h
-
-  pub one-room′ : 6146 ≤ length tree → length room < 16384 → update t old edits codes tree room ≡ small tree room
-  unfolding update
-  one-room′ h k = room-small tree room _ h k
+  too-short′ n = short tree room _ n
 
   abbrev on : Accepted t → Told
   on a = readList t old edits codes tree room (tree-in t old (a .layout)) (λ r. edits-in t (yield (erase r)) edits codes)

@@ -7,15 +7,36 @@ ghost use lib.ListN.{length};
 ghost use Rattle.definitions.specs.Sheet.{T, Layout};
 ghost use Rattle.definitions.specs.States.{Accepted};
 ghost use Rattle.definitions.specs.Edits.{Codes};
-ghost use Rattle.definitions.specs.Answers.{TextInOrder};
+ghost use Rattle.definitions.specs.Answers.{cleared, TextInOrder};
 ghost use Rattle.theory.specs.Check.Says.{Says};
 ghost use Rattle.theory.specs.Edits.EditsD.{text-in};
 ghost use Rattle.theory.specs.Answers.{readText, afresh, update};
-ghost use Rattle.theory.specs.Demands.Calls.{Afreshed, UpdatedAll};
+ghost use Rattle.theory.specs.Demands.Calls.{Enough, Afreshed, UpdatedAll};
 ghost use Rattle.tree.specs.Tokens.{tokens};
 ghost use Rattle.reading.specs.Fresh.{told};
 use answers::Answer;
 use table::Check;
+
+// ---- what is lent
+
+// Whether the tree to write and the room are long enough (else refusal 1).
+fn enough(tree: &[u32], room: &[u32]) -> bool
+    ensures { λ r. ⌜ Says r (Enough (now (tree .entry)) (now (room .entry))) ⌝ }
+{
+    if tree.len() < 6146 {
+        return false;
+    }
+    room.len() >= 16384
+}
+
+// A refusal, the room cleared.
+fn refuse(room: &mut [u32], a: Answer) -> Answer
+    requires { ⌜ 16384 ≤ length (now room) ⌝ }
+    ensures { λ r. ⌜ (r ≡ a) × (now (room .exit) ≡ cleared (now (room .entry))) ⌝ }
+{
+    machine::wipe(room);
+    a
+}
 
 // ---- the text
 
@@ -70,26 +91,14 @@ pub fn read_afresh(
         Afreshed (now (table .entry)) (now (codes .entry)) first (now (tree .entry)) (now (room .entry)) (told r (now (tree .exit)) (now (room .exit)))
         ⌝ }
 {
-    if tree.len() < 6146 {
-        return Answer::Small;
-    }
-    if room.len() < 16384 {
+    if !enough(tree, room) {
         return Answer::Small;
     }
     let found = table::check_table(table);
     match found {
-        Check::Layout => {
-            machine::wipe(room);
-            Answer::Layout
-        }
-        Check::Grammar => {
-            machine::wipe(room);
-            Answer::Grammar
-        }
-        Check::States(_, _) => {
-            machine::wipe(room);
-            Answer::States
-        }
+        Check::Layout => refuse(room, Answer::Layout),
+        Check::Grammar => refuse(room, Answer::Grammar),
+        Check::States(_, _) => refuse(room, Answer::States),
         Check::Yes => read_taken(table, codes, first, tree, room),
     }
 }
@@ -164,26 +173,14 @@ pub fn update<'a>(
         UpdatedAll (now (table .entry)) (now (old .entry)) (now (edits .entry)) (now (put .entry)) (now (tree .entry)) (now (room .entry)) (told r (now (tree .exit)) (now (room .exit)))
         ⌝ }
 {
-    if tree.len() < 6146 {
-        return Answer::Small;
-    }
-    if room.len() < 16384 {
+    if !enough(tree, room) {
         return Answer::Small;
     }
     let found = table::check_table(table);
     match found {
-        Check::Layout => {
-            machine::wipe(room);
-            Answer::Layout
-        }
-        Check::Grammar => {
-            machine::wipe(room);
-            Answer::Grammar
-        }
-        Check::States(_, _) => {
-            machine::wipe(room);
-            Answer::States
-        }
+        Check::Layout => refuse(room, Answer::Layout),
+        Check::Grammar => refuse(room, Answer::Grammar),
+        Check::States(_, _) => refuse(room, Answer::States),
         Check::Yes => update_taken(table, old, edits, put, tree, room),
     }
 }

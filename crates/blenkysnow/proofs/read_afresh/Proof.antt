@@ -2,25 +2,33 @@
 use mathlib.Core.Path.{ap, sym, subst, _∙_}
 use Prim.Native.Nat.{_<_}
 use native.Mathlib.Omega.{arith}
-use borrow.Author.Needs.{needs}
+use borrow.Author.Tests.{not-true, not-false}
+use Rattle.answers.specs.declared.Answer.{Answer}
 use Rattle.answers.specs.declared.Answer.the-variants.{Layout, Grammar, States}
-use Rattle.theory.specs.Demands.Calls.{Checks}
+use Rattle.theory.specs.Check.Says.{refused}
+use Rattle.theory.specs.Demands.Calls.{Enough, Checks}
 use Rattle.reading.specs.Fresh.{told}
 use Rattle.table.specs.Answer.{number}
-use Rattle.blenkysnow.specs.Afresh.{taken, one-tree, one-room, refused-by, goes-on, tells}
+use Rattle.blenkysnow.specs.Afresh.{taken, too-short, refused-by, goes-on, tells}
+use borrow.Author.Needs.{needs}
 use Rattle.blenkysnow.proofs.read_afresh.Statement.{statement}
 use Rattle.blenkysnow.proofs.read_afresh.Tie as tie
 
-returns : tie.Need-returns
-returns c =
-    let z = c .if1 .taken in
-    tells _ _ _ _ _ (sym (one-tree _ _ _ _ _ (omega arith)))
+-- room enough is lent
+lent : (c : tie.Else1) → let a = c .before .before .before .before .before .before .before .before .args in Enough (a .tree .now) (a .room .now)
+lent c = c .before .enough .ensures .to (not-false _ (c .if1 .left))
 
-returns-2 : tie.Need-returns-2
-returns-2 c =
-    let z = c .before .if1 .left in
-    let y = c .if2 .taken in
-    tells _ _ _ _ _ (sym (one-room _ _ _ _ _ (omega arith) (omega arith)))
+enough-requires : tie.Need-enough-requires
+enough-requires c κs = search needs
+
+same-length : tie.Need-same-length
+same-length c = search needs
+
+same-length-2 : tie.Need-same-length-2
+same-length-2 c = search needs
+
+returns : tie.Need-returns
+returns c = tells _ _ _ _ _ (sym (too-short _ _ _ _ _ (refused (c .before .enough .ensures) (not-true _ (c .if1 .taken)))))
 
 check-table-requires : tie.Need-check-table-requires
 check-table-requires c κs = search needs
@@ -28,101 +36,113 @@ check-table-requires c κs = search needs
 enum-told : tie.Need-enum-told
 enum-told c = search needs
 
-wipe-requires : tie.Need-wipe-requires
-wipe-requires c κs = search needs
+refuse-requires : tie.Need-refuse-requires
+refuse-requires c κs = lent (c .before .before .before .before) .roomy
 
 enum-told-2 : tie.Need-enum-told-2
 enum-told-2 c = search needs
 
-wipe-requires-2 : tie.Need-wipe-requires-2
-wipe-requires-2 c κs = search needs
+refuse-requires-2 : tie.Need-refuse-requires-2
+refuse-requires-2 c κs = lent (c .before .before .before .before) .roomy
 
 enum-told-3 : tie.Need-enum-told-3
 enum-told-3 c = search needs
 
-wipe-requires-3 : tie.Need-wipe-requires-3
-wipe-requires-3 c κs = search needs
+refuse-requires-3 : tie.Need-refuse-requires-3
+refuse-requires-3 c κs = lent (c .before .before .before .before) .roomy
 
 enum-told-4 : tie.Need-enum-told-4
 enum-told-4 c = search needs
 
 read-taken-requires : tie.Need-read-taken-requires
 read-taken-requires c κs =
-    let z = c .before .before .before .before .before .before .if1 .left in
-    let y = c .before .before .before .before .before .if2 .left in
-    (taken (ap number (c .before .before .enum-told4 .given .1)) (c .before .before .before .before .check-table .ensures .1 .0), omega arith, omega arith)
-
-same-length : tie.Need-same-length
-same-length c = search needs
-
-returns-3 : tie.Need-returns-3
-returns-3 c =
-    let a = c .before .before .before .before .before .before .before .before .before .before .before .before .before .args in
-    let z = c .before .before .before .before .before .before .before .before .if1 .left in
-    let y = c .before .before .before .before .before .before .before .if2 .left in
-    tells _ _ _ _ _
-    (ap (told Layout _) (c .before .before .wipe .ensures)
-    ∙ sym (refused-by (a .table .now) (a .codes .now) (a .first) (a .tree .now) (a .room .now) (omega arith) (omega arith) 2 (omega arith) (subst (λ r. Checks (a .table .now) (number r)) (c .before .before .before .before .enum-told .given .1) (c .before .before .before .before .before .before .check-table .ensures .1 .0))))
-
-same-length-2 : tie.Need-same-length-2
-same-length-2 c = search needs
-
-returns-4 : tie.Need-returns-4
-returns-4 c =
-    let a = c .before .before .before .before .before .before .before .before .before .before .before .before .before .args in
-    let z = c .before .before .before .before .before .before .before .before .if1 .left in
-    let y = c .before .before .before .before .before .before .before .if2 .left in
-    tells _ _ _ _ _
-    (ap (told Grammar _) (c .before .before .wipe2 .ensures)
-    ∙ sym (refused-by (a .table .now) (a .codes .now) (a .first) (a .tree .now) (a .room .now) (omega arith) (omega arith) 3 (omega arith) (subst (λ r. Checks (a .table .now) (number r)) (c .before .before .before .before .enum-told2 .given .1) (c .before .before .before .before .before .before .check-table .ensures .1 .0))))
+    let e = lent (c .before .before .before .before .before) in
+    (taken (ap number (c .before .before .enum-told4 .given .1)) (c .before .before .before .before .check-table .ensures .1 .0), e .wide, e .roomy)
 
 same-length-3 : tie.Need-same-length-3
 same-length-3 c = search needs
 
-returns-5 : tie.Need-returns-5
-returns-5 c =
-    let a = c .before .before .before .before .before .before .before .before .before .before .before .before .before .args in
-    let z = c .before .before .before .before .before .before .before .before .if1 .left in
-    let y = c .before .before .before .before .before .before .before .if2 .left in
-    tells _ _ _ _ _
-    (ap (told States _) (c .before .before .wipe3 .ensures)
-    ∙ sym (refused-by (a .table .now) (a .codes .now) (a .first) (a .tree .now) (a .room .now) (omega arith) (omega arith) 4 (omega arith) (subst (λ r. Checks (a .table .now) (number r)) (c .before .before .before .before .enum-told3 .given .1) (c .before .before .before .before .before .before .check-table .ensures .1 .0))))
-
 same-length-4 : tie.Need-same-length-4
 same-length-4 c = search needs
+
+returns-2 : tie.Need-returns-2
+returns-2 c =
+    let a = c .before .before .before .before .before .before .before .before .before .before .before .before .before .before .before .args in
+    let e = lent (c .before .before .before .before .before .before .before) in
+    let r = c .before .before .refuse .ensures in
+    tells _ _ _ _ _
+    (ap (λ (x : Answer). told x (a .tree .now) (c .before .before .refuse .last .0)) (r .0) ∙ ap (told Layout (a .tree .now)) (r .1)
+    ∙ sym (refused-by (a .table .now) (a .codes .now) (a .first) (a .tree .now) (a .room .now) (e .wide) (e .roomy) 2 (omega arith) (subst (λ x. Checks (a .table .now) (number x)) (c .before .before .before .before .enum-told .given .1) (c .before .before .before .before .before .before .check-table .ensures .1 .0))))
 
 same-length-5 : tie.Need-same-length-5
 same-length-5 c = search needs
 
-returns-6 : tie.Need-returns-6
-returns-6 c =
-    let z = c .before .before .before .before .before .before .before .before .before .before .before .if1 .left in
-    let y = c .before .before .before .before .before .before .before .before .before .before .if2 .left in
+same-length-6 : tie.Need-same-length-6
+same-length-6 c = search needs
+
+returns-3 : tie.Need-returns-3
+returns-3 c =
+    let a = c .before .before .before .before .before .before .before .before .before .before .before .before .before .before .before .args in
+    let e = lent (c .before .before .before .before .before .before .before) in
+    let r = c .before .before .refuse2 .ensures in
+    tells _ _ _ _ _
+    (ap (λ (x : Answer). told x (a .tree .now) (c .before .before .refuse2 .last .0)) (r .0) ∙ ap (told Grammar (a .tree .now)) (r .1)
+    ∙ sym (refused-by (a .table .now) (a .codes .now) (a .first) (a .tree .now) (a .room .now) (e .wide) (e .roomy) 3 (omega arith) (subst (λ x. Checks (a .table .now) (number x)) (c .before .before .before .before .enum-told2 .given .1) (c .before .before .before .before .before .before .check-table .ensures .1 .0))))
+
+same-length-7 : tie.Need-same-length-7
+same-length-7 c = search needs
+
+same-length-8 : tie.Need-same-length-8
+same-length-8 c = search needs
+
+returns-4 : tie.Need-returns-4
+returns-4 c =
+    let a = c .before .before .before .before .before .before .before .before .before .before .before .before .before .before .before .args in
+    let e = lent (c .before .before .before .before .before .before .before) in
+    let r = c .before .before .refuse3 .ensures in
+    tells _ _ _ _ _
+    (ap (λ (x : Answer). told x (a .tree .now) (c .before .before .refuse3 .last .0)) (r .0) ∙ ap (told States (a .tree .now)) (r .1)
+    ∙ sym (refused-by (a .table .now) (a .codes .now) (a .first) (a .tree .now) (a .room .now) (e .wide) (e .roomy) 4 (omega arith) (subst (λ x. Checks (a .table .now) (number x)) (c .before .before .before .before .enum-told3 .given .1) (c .before .before .before .before .before .before .check-table .ensures .1 .0))))
+
+same-length-9 : tie.Need-same-length-9
+same-length-9 c = search needs
+
+same-length-10 : tie.Need-same-length-10
+same-length-10 c = search needs
+
+returns-5 : tie.Need-returns-5
+returns-5 c =
+    let e = lent (c .before .before .before .before .before .before .before .before .before .before) in
     tells _ _ _ _ _
     (c .before .before .before .before .read-taken .ensures
-    ∙ sym (goes-on _ _ _ _ _ (omega arith) (omega arith) (taken (ap number (c .before .before .before .before .before .before .before .enum-told4 .given .1)) (c .before .before .before .before .before .before .before .before .before .check-table .ensures .1 .0))))
+    ∙ sym (goes-on _ _ _ _ _ (e .wide) (e .roomy) (taken (ap number (c .before .before .before .before .before .before .before .enum-told4 .given .1)) (c .before .before .before .before .before .before .before .before .before .check-table .ensures .1 .0))))
 
 pub read-afresh-spec : {M : Type 1} → statement M
 read-afresh-spec =
     tie.close
     (tie.spec
+    enough-requires
+    same-length
+    same-length-2
     returns
-    returns-2
     check-table-requires
     enum-told
-    wipe-requires
+    refuse-requires
     enum-told-2
-    wipe-requires-2
+    refuse-requires-2
     enum-told-3
-    wipe-requires-3
+    refuse-requires-3
     enum-told-4
     read-taken-requires
-    same-length
-    returns-3
-    same-length-2
-    returns-4
     same-length-3
-    returns-5
     same-length-4
+    returns-2
     same-length-5
-    returns-6)
+    same-length-6
+    returns-3
+    same-length-7
+    same-length-8
+    returns-4
+    same-length-9
+    same-length-10
+    returns-5)
