@@ -11,6 +11,17 @@ pub enum Got {
     Broken,
 }
 
+// What a case is: a table, with the broken condition named or not; a reading or an update, made so many times; a reading list. Or the
+// input's end, or a letter that is none or whose number is missing.
+pub enum Kind {
+    End,
+    Table(bool),
+    Read(usize),
+    Update(usize),
+    List,
+    Broken,
+}
+
 // How much of each of its rows an update has: the table's bytes, the words of the old row, of the edits and of the inserted codes.
 pub enum Edited {
     Parts(usize, usize, usize, usize),
@@ -44,6 +55,50 @@ pub fn read_number() -> Got
         return Got::Broken;
     }
     Got::Number(tree::wide(word_at(&b, 0)))
+}
+
+// The number of times of a case of kind N, if it reads, or V.
+fn read_times(reads: bool) -> Kind {
+    let g = read_number();
+    let Got::Number(times) = g else {
+        return Kind::Broken;
+    };
+    if reads {
+        Kind::Read(times)
+    } else {
+        Kind::Update(times)
+    }
+}
+
+// The kind that a letter stands for.
+fn kind_of(letter: u8) -> Kind {
+    if letter == b'T' {
+        Kind::Table(false)
+    } else if letter == b'C' {
+        Kind::Table(true)
+    } else if letter == b'R' {
+        Kind::Read(1)
+    } else if letter == b'N' {
+        read_times(true)
+    } else if letter == b'U' {
+        Kind::Update(1)
+    } else if letter == b'V' {
+        read_times(false)
+    } else if letter == b'L' {
+        Kind::List
+    } else {
+        Kind::Broken
+    }
+}
+
+// The letter of the next case, and the number of times where there is one.
+pub fn read_kind() -> Kind {
+    let mut letter = [0u8; 1];
+    let n = io::read_full(0, &mut letter);
+    if n == 0 {
+        return Kind::End;
+    }
+    kind_of(letter[0])
 }
 
 // A count that may not exceed a limit.

@@ -19,6 +19,7 @@ ghost use lib.ListN.{length};
 use answers::Answer;
 use input::Edited;
 use input::Got;
+use input::Kind;
 use input::Lent;
 use table::Check;
 
@@ -110,7 +111,7 @@ fn read_over(
     read_and_tell(times, table, codes, first, &mut tree[..a], &mut room[..b])
 }
 
-// A case of kind R, or behind the number of times one of kind N.
+// A case of kind R, or behind the number of times the rest of one of kind N.
 fn read_case(
     times: usize,
     table: &mut [u8],
@@ -194,7 +195,7 @@ fn update_over<'a>(
     )
 }
 
-// A case of kind U, or behind the number of times one of kind V.
+// A case of kind U, or behind the number of times the rest of one of kind V.
 fn update_case(
     times: usize,
     table: &mut [u8],
@@ -238,27 +239,6 @@ fn list_case(
 
 // ---- the run
 
-// A case of kind N or V: the number of times, then the case.
-fn timed_case(
-    reads: bool,
-    table: &mut [u8],
-    old: &mut [u32],
-    edits: &mut [u32],
-    codes: &mut [u32],
-    tree: &mut [u32],
-    room: &mut [u32],
-) -> bool {
-    let g = input::read_number();
-    let Got::Number(times) = g else {
-        return malformed();
-    };
-    if reads {
-        read_case(times, table, codes, tree, room)
-    } else {
-        update_case(times, table, old, edits, codes, tree, room)
-    }
-}
-
 // One case, and whether to go on: the end of the input stops the run.
 fn one(
     table: &mut [u8],
@@ -270,27 +250,14 @@ fn one(
 ) -> bool
     requires { ⌜ 16384 ≤ length (now room) ⌝ }
 {
-    let mut kind = [0u8; 1];
-    let n = io::read_full(0, &mut kind);
-    if n == 0 {
-        return false;
-    }
-    if kind[0] == b'T' {
-        check_case(false, table)
-    } else if kind[0] == b'C' {
-        check_case(true, table)
-    } else if kind[0] == b'R' {
-        read_case(1, table, codes, tree, room)
-    } else if kind[0] == b'U' {
-        update_case(1, table, old, edits, codes, tree, room)
-    } else if kind[0] == b'L' {
-        list_case(table, old, edits, codes, room)
-    } else if kind[0] == b'N' {
-        timed_case(true, table, old, edits, codes, tree, room)
-    } else if kind[0] == b'V' {
-        timed_case(false, table, old, edits, codes, tree, room)
-    } else {
-        malformed()
+    let k = input::read_kind();
+    match k {
+        Kind::End => false,
+        Kind::Table(named) => check_case(named, table),
+        Kind::Read(times) => read_case(times, table, codes, tree, room),
+        Kind::Update(times) => update_case(times, table, old, edits, codes, tree, room),
+        Kind::List => list_case(table, old, edits, codes, room),
+        Kind::Broken => malformed(),
     }
 }
 
