@@ -5,10 +5,10 @@ import subprocess
 import sys
 
 sys.path.insert(0, os.path.join(os.path.dirname(os.path.abspath(__file__)), "common"))
-from cases import ROOM, TREE, Tally, build_second, here, judge, lines, of_read, read_case, run, second, split, table, threes, vectors
+from cases import CLOSES, M, OPENS, ROOM, TREE, Tally, build_second, fresh, here, judge, lines, nodes, of_read, read_case, run, second, split, table, threes, vectors
 
 house, canonical = table("house.lrt"), table("house.canonical.lrt")
-m, opens, closes = 1, 2, 3
+m, opens, closes = M, OPENS, CLOSES
 top = 4294967295
 tally = Tally()
 every = []
@@ -20,39 +20,10 @@ def expect(what, pairs):
     tally.group(what, [wanted for _, wanted in pairs], threes(run(judge, b"".join(case for case, _ in pairs))))
 
 
-def nodes(codes):
-    """The records of a text of the house grammar, by recursion on its brackets: kind and size in written order."""
-    out, at = [], 0
-
-    def walk():
-        nonlocal at
-        out.append((257, 1))
-        size = 1
-        while at < len(codes) and codes[at] != closes:
-            if codes[at] == m:
-                out.extend([(m, 1), (259, 2)])
-                at, entry = at + 1, 2
-            else:
-                out.append((opens, 1))
-                at += 1
-                inner = walk()
-                out.extend([(closes, 1), (260, inner + 3)])
-                at, entry = at + 1, inner + 3
-            size += entry + 1
-            out.append((258, size))
-        return size
-
-    walk()
-    return out
-
-
 def written(codes, first=1):
     """What is printed where a text of the house grammar is accepted."""
-    records = nodes(codes)
-    row = [len(records), first + len(records)]
-    for i, (kind, size) in enumerate(records):
-        row += [kind, first + i, size]
-    return lines(0, 0, (0, 0, 0, len(codes), len(records) - len(codes)), row)
+    row = fresh(codes, first)
+    return lines(0, 0, (0, 0, 0, len(codes), row[0] - len(codes)), row)
 
 
 def taken(codes, first=1):
@@ -61,8 +32,8 @@ def taken(codes, first=1):
 
 expect("stored vectors", [of_read(v) for v in vectors("read.jsonl")])
 
-fresh = [[], [m], [m, m], [opens, closes], [opens, m, m, closes, m]]
-expect("texts that are accepted", [taken(codes) for codes in fresh])
+texts = [[], [m], [m, m], [opens, closes], [opens, m, m, closes, m]]
+expect("texts that are accepted", [taken(codes) for codes in texts])
 sizes = [len(nodes(codes)) for codes in ([m] * 682, [opens, closes] * 2 + [m] * 679, [opens, closes] + [m] * 681)]
 tally.group("their nodes: 2,047 and 2,048 fit, 2,049 do not", [2047, 2048, 2049], sizes)
 expect("at the limit of nodes", [

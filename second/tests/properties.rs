@@ -11,7 +11,7 @@ use second::conditions;
 use second::edits::{edits_in_rule, reading_list, Edit};
 use second::grammar::rules_hold;
 use second::sheet::{read_sheet, Sheet};
-use second::tools::case::Case;
+use second::tools::case::{Case, Edited};
 use second::tools::cases::CaseMaker;
 use second::tools::grammars::random_plan;
 use second::tools::judge::{judge_all, Judge};
@@ -108,7 +108,7 @@ struct Ruled {
 }
 
 fn ruled(case: Case) -> Option<Ruled> {
-    let Case::Update { table, row, edits: words, put, .. } = case else {
+    let Case::Update { edited: Edited { table, row, edits: words, put }, .. } = case else {
         return None;
     };
     let sheet = accepted_sheet(&table).ok()?;

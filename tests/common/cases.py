@@ -10,6 +10,7 @@ built = os.path.join(here, "target", "second")
 second = os.path.join(built, "release", "second")
 
 TREE, ROOM = 6146, 16384
+M, OPENS, CLOSES = 1, 2, 3
 
 
 def table(name):
@@ -41,6 +42,16 @@ def read_case(sheet, codes, first=1, tree=TREE, room=ROOM):
     return b"R" + number(len(sheet)) + sheet + words(codes) + number(first) + number(tree) + number(room)
 
 
+def update_case(sheet, row, edits=(), put=(), tree=TREE, room=ROOM):
+    """A case of kind U; `edits` is the row of edit words."""
+    return b"U" + number(len(sheet)) + sheet + words(row) + words(edits) + words(put) + number(tree) + number(room)
+
+
+def list_case(update):
+    """The case of kind L for the reading list of a case of kind U."""
+    return b"L" + update[1:-8]
+
+
 def lines(no, place=0, counts=(0, 0, 0, 0, 0), tree=None, room="zero"):
     """What the judge prints for a reading or an update; `tree` is the row written, or None: as lent."""
     said = "tree as lent" if tree is None else " ".join(["tree"] + [str(w) for w in tree])
@@ -52,6 +63,14 @@ def of_read(v):
     e = v["expect"]
     tree = None if e["tree"] is None else from_hex(e["tree"])
     case = read_case(bytes.fromhex(v["table"]), from_hex(v["codes"]), int(v["first"], 16), v["tree_len"], v["room_len"])
+    return case, lines(e["no"], e["place"], e["counts"], tree, e["room"])
+
+
+def of_update(v):
+    """A stored case of kind update: the judge's case, and the lines that it has to print."""
+    e = v["expect"]
+    tree = None if e["tree"] is None else from_hex(e["tree"])
+    case = update_case(bytes.fromhex(v["table"]), from_hex(v["row"]), from_hex(v["edits"]), from_hex(v["codes"]), v["tree_len"], v["room_len"])
     return case, lines(e["no"], e["place"], e["counts"], tree, e["room"])
 
 
@@ -67,6 +86,46 @@ def split(cases):
             at += 4 + {"b": count, "w": 4 * count, "n": 0}[field]
         found.append(cases[start:at])
     return found
+
+
+def nodes(codes):
+    """The records of a text of the house grammar, by recursion on its brackets: kind and size in written order."""
+    out, at = [], 0
+
+    def walk():
+        nonlocal at
+        out.append((257, 1))
+        size = 1
+        while at < len(codes) and codes[at] != CLOSES:
+            if codes[at] == M:
+                out.extend([(M, 1), (259, 2)])
+                at, entry = at + 1, 2
+            else:
+                out.append((OPENS, 1))
+                at += 1
+                inner = walk()
+                out.extend([(CLOSES, 1), (260, inner + 3)])
+                at, entry = at + 1, inner + 3
+            size += entry + 1
+            out.append((258, size))
+        return size
+
+    walk()
+    return out
+
+
+def row_of(records, numbers, after):
+    """The row of a tree: its records' kinds and sizes with their numbers, and the next number."""
+    row = [len(records), after]
+    for (kind, size), number in zip(records, numbers):
+        row += [kind, number, size]
+    return row
+
+
+def fresh(codes, first=1):
+    """The row of a text of the house grammar, numbered upward."""
+    records = nodes(codes)
+    return row_of(records, range(first, first + len(records)), first + len(records))
 
 
 def run(program, given):

@@ -1,2 +1,3 @@
 -- What the judge knows of its input.
 pub mod Fields
+pub mod Listing

@@ -3,11 +3,23 @@
 ghost use mathlib.Core.Path.{_≡_};
 ghost use Prim.Native.Nat.{_+_, _*_, _≤_};
 ghost use lib.ListN.{length};
-ghost use Rattle.judge.specs.Fields.{Within};
+ghost use Rattle.judge.specs.Fields.{Within, Rows, Within2};
 
 // A number of the input, or that the input broke off or went past a limit.
 pub enum Got {
     Number(usize),
+    Broken,
+}
+
+// How much of each of its rows an update has: the table's bytes, the words of the old row, of the edits and of the inserted codes.
+pub enum Edited {
+    Parts(usize, usize, usize, usize),
+    Broken,
+}
+
+// How many words of the tree and of the room are lent.
+pub enum Lent {
+    Words(usize, usize),
     Broken,
 }
 
@@ -52,7 +64,7 @@ pub fn read_count(most: usize) -> Got
 
 // A count and as many bytes, put to the start of the row.
 pub fn read_bytes(row: &mut [u8]) -> Got
-    ensures { λ r. ⌜ Within (length (now (row .entry))) r ⌝ }
+    ensures { λ r. ⌜ Within (length (now (row .exit))) r ⌝ }
 {
     let g = read_count(row.len());
     match g {
@@ -67,33 +79,102 @@ pub fn read_bytes(row: &mut [u8]) -> Got
     }
 }
 
-// The words of a row of bytes.
-fn spread(bytes: &[u8], row: &mut [u32], n: usize)
-    requires { ⌜ (4 * n ≤ length (now bytes)) × (n ≤ length (now row)) ⌝ }
+// The first n words of a row of bytes, put to the row from `at` on.
+fn spread(bytes: &[u8; 1024], row: &mut [u32], at: usize, n: usize)
+    requires { ⌜ (n ≤ 256) × (at + n ≤ length (now row)) ⌝ }
 {
     let mut i: usize = 0;
     while i < n {
-        row[i] = word_at(bytes, 4 * i);
+        row[at + i] = word_at(bytes, 4 * i);
         i += 1;
     }
 }
 
-// A count and as many words, put to the start of the row by way of a row of bytes.
-pub fn read_words(bytes: &mut [u8], row: &mut [u32]) -> Got
-    requires { ⌜ 4 * length (now row) ≤ length (now bytes) ⌝ }
-    ensures { λ r. ⌜ Within (length (now (row .entry))) r ⌝ }
+// The next n words of the input, at most 256, put to the row from `at` on; whether it has them.
+fn read_some(row: &mut [u32], at: usize, n: usize) -> bool
+    requires { ⌜ (n ≤ 256) × (at + n ≤ length (now row)) ⌝ }
+{
+    let mut bytes = [0u8; 1024];
+    let m = 4 * n;
+    let got = io::read_full(0, &mut bytes[..m]);
+    if got < m {
+        return false;
+    }
+    spread(&bytes, row, at, n);
+    true
+}
+
+// The next n words, put to the start of the row; whether the input has them.
+fn read_all(row: &mut [u32], n: usize) -> bool
+    requires { ⌜ n ≤ length (now row) ⌝ }
+{
+    let mut at: usize = 0;
+    while n - at > 256 {
+        if read_some(row, at, 256) {
+            at += 256;
+        } else {
+            return false;
+        }
+    }
+    read_some(row, at, n - at)
+}
+
+// A count and as many words, put to the start of the row.
+pub fn read_words(row: &mut [u32]) -> Got
+    ensures { λ r. ⌜ Within (length (now (row .exit))) r ⌝ }
 {
     let g = read_count(row.len());
     match g {
         Got::Broken => Got::Broken,
         Got::Number(n) => {
-            let m = 4 * n;
-            let got = io::read_full(0, &mut bytes[..m]);
-            if got < m {
-                return Got::Broken;
+            if read_all(row, n) {
+                return Got::Number(n);
             }
-            spread(bytes, row, n);
-            Got::Number(n)
+            Got::Broken
         }
     }
+}
+
+// The rows of an update.
+pub fn read_edited(
+    table: &mut [u8],
+    old: &mut [u32],
+    edits: &mut [u32],
+    codes: &mut [u32],
+) -> Edited
+    ensures { λ r.
+        ⌜ Rows (length (now (table .exit))) (length (now (old .exit))) (length (now (edits .exit))) (length (now (codes .exit))) r ⌝ }
+{
+    let t = read_bytes(table);
+    let Got::Number(a) = t else {
+        return Edited::Broken;
+    };
+    let o = read_words(old);
+    let Got::Number(b) = o else {
+        return Edited::Broken;
+    };
+    let e = read_words(edits);
+    let Got::Number(c) = e else {
+        return Edited::Broken;
+    };
+    let k = read_words(codes);
+    let Got::Number(d) = k else {
+        return Edited::Broken;
+    };
+    Edited::Parts(a, b, c, d)
+}
+
+// The words lent of a tree and of a room that have so many.
+pub fn read_lent(tree: usize, room: usize) -> Lent
+    ensures { λ r. ⌜ Within2 tree room r ⌝ }
+{
+    let t = read_count(tree);
+    let Got::Number(a) = t else {
+        return Lent::Broken;
+    };
+    let r = read_count(room);
+    let Got::Number(b) = r else {
+        return Lent::Broken;
+    };
+    Lent::Words(a, b)
 }

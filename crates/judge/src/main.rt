@@ -4,22 +4,23 @@
 // C: the same, and refusal 4 is followed by the broken condition and the state where it is broken, each on its line.
 // R: a table as above; the count of codes and the codes; the first number; the words of tree lent; the words of room lent. It prints the
 //    three lines of told.rt.
-// N: a number of times, then as R. The call is made so many times over the same rows, which serves to time it.
+// U: a table; the old row's count of words and its words; the same of the edits and of the inserted codes; the words of tree and of room
+//    lent. It prints the three lines.
+// N, V: a number of times, then as R or as U. The call is made so many times over the same rows, which serves to time it.
+// L: as U without the words lent. It prints the reading list that the library makes of the update, on the line of listed.rt.
 // Malformed input prints `input` and stops.
 mod input;
+mod listed;
 mod told;
 
 ghost use mathlib.Core.Path.{_≡_};
+ghost use Prim.Native.Nat.{_≤_};
 ghost use lib.ListN.{length};
 use answers::Answer;
+use input::Edited;
 use input::Got;
+use input::Lent;
 use table::Check;
-
-// One number on a line of its own.
-fn print_line(n: u64) -> bool {
-    io::print_decimal(1, n);
-    io::write_all(1, b"\n")
-}
 
 // What is said of malformed input; the run stops.
 fn malformed() -> bool {
@@ -27,70 +28,32 @@ fn malformed() -> bool {
     false
 }
 
-// ---- rows as long as their field may be
-
-// 66,000 zeros, more than any table that is taken has bytes.
-fn table_row() -> [u8; 66000]
-    ensures { λ r. ⌜ 66000 ≡ length r ⌝ }
-{
-    [0; 66000]
-}
-
-// 2,200 codes.
-fn code_row() -> [u32; 2200]
-    ensures { λ r. ⌜ 2200 ≡ length r ⌝ }
-{
-    [0; 2200]
-}
-
-// As many bytes as the longest row of words has.
-fn byte_row() -> [u8; 8800]
-    ensures { λ r. ⌜ 8800 ≡ length r ⌝ }
-{
-    [0; 8800]
-}
-
-// A tree to write, of 6,400 words.
-fn tree_row() -> [u32; 6400]
-    ensures { λ r. ⌜ 6400 ≡ length r ⌝ }
-{
-    [told::TREE; 6400]
-}
-
-// A working room of 16,640 words.
-fn room_row() -> [u32; 16640]
-    ensures { λ r. ⌜ 16640 ≡ length r ⌝ }
-{
-    [told::ROOM; 16640]
-}
-
 // ---- the table check
 
 // Refusal 4, and if it is asked for the condition and the state.
 fn tell_states(named: bool, c: u8, s: usize) -> bool {
     if named {
-        print_line(4);
-        print_line(c as u64);
-        print_line(s as u64)
+        told::say_line(4);
+        told::say_line(c as u64);
+        told::say_line(s as u64)
     } else {
-        print_line(4)
+        told::say_line(4)
     }
 }
 
 // The answer's number on a line.
 fn tell_check(named: bool, c: Check) -> bool {
     match c {
-        Check::Yes => print_line(0),
-        Check::Layout => print_line(2),
-        Check::Grammar => print_line(3),
+        Check::Yes => told::say_line(0),
+        Check::Layout => told::say_line(2),
+        Check::Grammar => told::say_line(3),
         Check::States(k, s) => tell_states(named, k, s),
     }
 }
 
 // A case of kind T or C.
-fn check_case(named: bool) -> bool {
-    let mut table = table_row();
-    let g = input::read_bytes(&mut table);
+fn check_case(named: bool, table: &mut [u8]) -> bool {
+    let g = input::read_bytes(table);
     match g {
         Got::Broken => malformed(),
         Got::Number(n) => tell_check(named, table::check_table(&table[..n])),
@@ -129,87 +92,239 @@ fn read_and_tell(
     told::tell(a, tree, room)
 }
 
-// The rows that are lent to be written, and the call.
-fn read_over(times: usize, table: &[u8], codes: &[u32], first: u32) -> bool {
-    let t = input::read_count(6400);
-    let Got::Number(wide) = t else {
+// The first words of the tree and of the room are lent, as many as the case says.
+fn read_over(
+    times: usize,
+    table: &[u8],
+    codes: &[u32],
+    first: u32,
+    tree: &mut [u32],
+    room: &mut [u32],
+) -> bool {
+    told::fill(tree, told::TREE);
+    told::fill(room, told::ROOM);
+    let l = input::read_lent(tree.len(), room.len());
+    let Lent::Words(a, b) = l else {
         return malformed();
     };
-    let r = input::read_count(16640);
-    let Got::Number(roomy) = r else {
-        return malformed();
-    };
-    let mut tree = tree_row();
-    let mut room = room_row();
-    read_and_tell(
-        times,
-        table,
-        codes,
-        first,
-        &mut tree[..wide],
-        &mut room[..roomy],
-    )
+    read_and_tell(times, table, codes, first, &mut tree[..a], &mut room[..b])
 }
 
 // A case of kind R, or behind the number of times one of kind N.
-fn read_case(times: usize) -> bool {
-    let mut table = table_row();
-    let t = input::read_bytes(&mut table);
-    let Got::Number(n) = t else {
+fn read_case(
+    times: usize,
+    table: &mut [u8],
+    codes: &mut [u32],
+    tree: &mut [u32],
+    room: &mut [u32],
+) -> bool {
+    let t = input::read_bytes(table);
+    let Got::Number(a) = t else {
         return malformed();
     };
-    let mut bytes = byte_row();
-    let mut codes = code_row();
-    let c = input::read_words(&mut bytes, &mut codes);
-    let Got::Number(m) = c else {
+    let c = input::read_words(codes);
+    let Got::Number(b) = c else {
         return malformed();
     };
     let f = input::read_number();
     let Got::Number(first) = f else {
         return malformed();
     };
-    read_over(times, &table[..n], &codes[..m], first as u32)
+    read_over(times, &table[..a], &codes[..b], first as u32, tree, room)
 }
 
-// A case of kind N.
-fn timed_case() -> bool {
-    let g = input::read_number();
-    match g {
-        Got::Broken => malformed(),
-        Got::Number(times) => read_case(times),
+// ---- updating
+
+// The call, made so many times, at least once.
+fn update_times<'a>(
+    times: usize,
+    table: &[u8],
+    old: &'a [u32],
+    edits: &[u32],
+    put: &'a [u32],
+    tree: &mut [u32],
+    room: &mut [u32],
+) -> Answer {
+    let mut left = times;
+    while left > 1 {
+        blenkysnow::update(table, old, edits, put, tree, room);
+        left -= 1;
     }
+    blenkysnow::update(table, old, edits, put, tree, room)
+}
+
+// The call over the rows lent, and what it did.
+fn update_and_tell<'a>(
+    times: usize,
+    table: &[u8],
+    old: &'a [u32],
+    edits: &[u32],
+    put: &'a [u32],
+    tree: &mut [u32],
+    room: &mut [u32],
+) -> bool {
+    let a = update_times(times, table, old, edits, put, tree, room);
+    told::tell(a, tree, room)
+}
+
+// The first words of the tree and of the room are lent, as many as the case says.
+fn update_over<'a>(
+    times: usize,
+    table: &[u8],
+    old: &'a [u32],
+    edits: &[u32],
+    put: &'a [u32],
+    tree: &mut [u32],
+    room: &mut [u32],
+) -> bool {
+    told::fill(tree, told::TREE);
+    told::fill(room, told::ROOM);
+    let l = input::read_lent(tree.len(), room.len());
+    let Lent::Words(a, b) = l else {
+        return malformed();
+    };
+    update_and_tell(
+        times,
+        table,
+        old,
+        edits,
+        put,
+        &mut tree[..a],
+        &mut room[..b],
+    )
+}
+
+// A case of kind U, or behind the number of times one of kind V.
+fn update_case(
+    times: usize,
+    table: &mut [u8],
+    old: &mut [u32],
+    edits: &mut [u32],
+    codes: &mut [u32],
+    tree: &mut [u32],
+    room: &mut [u32],
+) -> bool {
+    let e = input::read_edited(table, old, edits, codes);
+    let Edited::Parts(a, b, c, d) = e else {
+        return malformed();
+    };
+    update_over(
+        times,
+        &table[..a],
+        &old[..b],
+        &edits[..c],
+        &codes[..d],
+        tree,
+        room,
+    )
+}
+
+// A case of kind L. The list is made in the room.
+fn list_case(
+    table: &mut [u8],
+    old: &mut [u32],
+    edits: &mut [u32],
+    codes: &mut [u32],
+    room: &mut [u32],
+) -> bool
+    requires { ⌜ 16384 ≤ length (now room) ⌝ }
+{
+    let e = input::read_edited(table, old, edits, codes);
+    let Edited::Parts(a, b, c, d) = e else {
+        return malformed();
+    };
+    listed::tell(&table[..a], &old[..b], &edits[..c], &codes[..d], room)
 }
 
 // ---- the run
 
+// A case of kind N or V: the number of times, then the case.
+fn timed_case(
+    reads: bool,
+    table: &mut [u8],
+    old: &mut [u32],
+    edits: &mut [u32],
+    codes: &mut [u32],
+    tree: &mut [u32],
+    room: &mut [u32],
+) -> bool {
+    let g = input::read_number();
+    let Got::Number(times) = g else {
+        return malformed();
+    };
+    if reads {
+        read_case(times, table, codes, tree, room)
+    } else {
+        update_case(times, table, old, edits, codes, tree, room)
+    }
+}
+
 // One case, and whether to go on: the end of the input stops the run.
-fn one() -> bool {
+fn one(
+    table: &mut [u8],
+    old: &mut [u32],
+    edits: &mut [u32],
+    codes: &mut [u32],
+    tree: &mut [u32],
+    room: &mut [u32],
+) -> bool
+    requires { ⌜ 16384 ≤ length (now room) ⌝ }
+{
     let mut kind = [0u8; 1];
     let n = io::read_full(0, &mut kind);
     if n == 0 {
         return false;
     }
     if kind[0] == b'T' {
-        check_case(false)
+        check_case(false, table)
     } else if kind[0] == b'C' {
-        check_case(true)
+        check_case(true, table)
     } else if kind[0] == b'R' {
-        read_case(1)
+        read_case(1, table, codes, tree, room)
+    } else if kind[0] == b'U' {
+        update_case(1, table, old, edits, codes, tree, room)
+    } else if kind[0] == b'L' {
+        list_case(table, old, edits, codes, room)
     } else if kind[0] == b'N' {
-        timed_case()
+        timed_case(true, table, old, edits, codes, tree, room)
+    } else if kind[0] == b'V' {
+        timed_case(false, table, old, edits, codes, tree, room)
     } else {
         malformed()
     }
 }
 
 // A proved loop has to end, and nothing says that the input does: it counts down from a number that no run uses up.
-fn all() {
+fn all(
+    table: &mut [u8],
+    old: &mut [u32],
+    edits: &mut [u32],
+    codes: &mut [u32],
+    tree: &mut [u32],
+    room: &mut [u32],
+)
+    requires { ⌜ 16384 ≤ length (now room) ⌝ }
+{
     let mut cases = u64::MAX;
-    while cases > 0 && one() {
+    while cases > 0 && one(table, old, edits, codes, tree, room) {
         cases -= 1;
     }
 }
 
+// The rows are as long as their fields may be; all that is lent is a part of them.
 fn main() {
-    all();
+    let mut table = [0u8; 66000];
+    let mut old = [0u32; 8200];
+    let mut edits = [0u32; 12300];
+    let mut codes = [0u32; 2200];
+    let mut tree = [0u32; 6400];
+    let mut room = [0u32; 16640];
+    all(
+        &mut table,
+        &mut old,
+        &mut edits,
+        &mut codes,
+        &mut tree,
+        &mut room,
+    );
 }

@@ -8,19 +8,40 @@ pub const TREE: u32 = 2779096485;
 // What the words of a room are before the call.
 pub const ROOM: u32 = 1515870810;
 
-fn say(text: &[u8]) -> bool {
+// Every word of the row is this one.
+pub fn fill(row: &mut [u32], word: u32) {
+    let mut i: usize = 0;
+    while i < row.len() {
+        row[i] = word;
+        i += 1;
+    }
+}
+
+// Some text.
+pub fn say(text: &[u8]) -> bool {
     io::write_all(1, text)
+}
+
+// One number on a line of its own.
+pub fn say_line(n: u64) -> bool {
+    io::print_decimal(1, n);
+    say(b"\n")
+}
+
+// A number.
+pub fn say_number(n: u32) -> bool {
+    io::print_decimal(1, n as u64)
 }
 
 // A number behind a space.
 fn say_next(n: u32) -> bool {
     say(b" ");
-    io::print_decimal(1, n as u64)
+    say_number(n)
 }
 
 // `number place left right whole token reductions`
 fn say_answer(a: Answer) -> bool {
-    io::print_decimal(1, answers::number(a) as u64);
+    say_number(answers::number(a));
     say_next(answers::place(a));
     let k = answers::counts_of(a);
     say_next(k.lefts);

@@ -22,13 +22,47 @@ impl Lent {
     }
 }
 
-/// A case. A reading's `times` is how often the call is made over the same buffers; more than
-/// once serves to time it.
+/// What an update is made of: the table, the old row, the edit words and the inserted codes.
+#[derive(Clone, PartialEq, Eq, Debug)]
+pub struct Edited {
+    pub table: Vec<u8>,
+    pub row: Vec<u32>,
+    pub edits: Vec<u32>,
+    pub put: Vec<u32>,
+}
+
+/// A case. `times` is how often the call is made over the same buffers; more than once serves to
+/// time it. A list is the reading list of an update, which is not read.
 #[derive(Clone, PartialEq, Eq, Debug)]
 pub enum Case {
     Table { table: Vec<u8> },
     Read { table: Vec<u8>, codes: Vec<u32>, first: u32, lent: Lent, times: u32 },
-    Update { table: Vec<u8>, row: Vec<u32>, edits: Vec<u32>, put: Vec<u32>, lent: Lent },
+    Update { edited: Edited, lent: Lent, times: u32 },
+    List { edited: Edited },
+}
+
+impl Edited {
+    fn write(&self, output: &mut impl Write) -> io::Result<()> {
+        write_bytes(output, &self.table)?;
+        write_words(output, &self.row)?;
+        write_words(output, &self.edits)?;
+        write_words(output, &self.put)
+    }
+
+    fn read(input: &mut impl Read) -> io::Result<Edited> {
+        let table = read_table(input)?;
+        let row = read_words(input, MOST_ROW_WORDS)?;
+        let edits = read_words(input, MOST_EDIT_WORDS)?;
+        let put = read_words(input, MOST_CODES)?;
+        Ok(Edited { table, row, edits, put })
+    }
+
+    fn is_within_limits(&self) -> bool {
+        self.table.len() <= MOST_TABLE_BYTES
+            && self.row.len() <= MOST_ROW_WORDS
+            && self.edits.len() <= MOST_EDIT_WORDS
+            && self.put.len() <= MOST_CODES
+    }
 }
 
 impl Case {
@@ -39,24 +73,20 @@ impl Case {
                 write_bytes(output, table)
             }
             Case::Read { table, codes, first, lent, times } => {
-                if *times == 1 {
-                    output.write_all(b"R")?;
-                } else {
-                    output.write_all(b"N")?;
-                    write_number(output, *times)?;
-                }
+                write_kind(output, b"R", b"N", *times)?;
                 write_bytes(output, table)?;
                 write_words(output, codes)?;
                 write_number(output, *first)?;
                 write_lent(output, *lent)
             }
-            Case::Update { table, row, edits, put, lent } => {
-                output.write_all(b"U")?;
-                write_bytes(output, table)?;
-                write_words(output, row)?;
-                write_words(output, edits)?;
-                write_words(output, put)?;
+            Case::Update { edited, lent, times } => {
+                write_kind(output, b"U", b"V", *times)?;
+                edited.write(output)?;
                 write_lent(output, *lent)
+            }
+            Case::List { edited } => {
+                output.write_all(b"L")?;
+                edited.write(output)
             }
         }
     }
@@ -70,13 +100,10 @@ impl Case {
                     && codes.len() <= MOST_CODES
                     && lent.is_within_limits()
             }
-            Case::Update { table, row, edits, put, lent } => {
-                table.len() <= MOST_TABLE_BYTES
-                    && row.len() <= MOST_ROW_WORDS
-                    && edits.len() <= MOST_EDIT_WORDS
-                    && put.len() <= MOST_CODES
-                    && lent.is_within_limits()
+            Case::Update { edited, lent, .. } => {
+                edited.is_within_limits() && lent.is_within_limits()
             }
+            Case::List { edited } => edited.is_within_limits(),
         }
     }
 
@@ -92,7 +119,12 @@ impl Case {
                 let times = read_number(input)?;
                 Case::read_read(input, times).map(Some)
             }
-            b'U' => Case::read_update(input).map(Some),
+            b'U' => Case::read_update(input, 1).map(Some),
+            b'V' => {
+                let times = read_number(input)?;
+                Case::read_update(input, times).map(Some)
+            }
+            b'L' => Ok(Some(Case::List { edited: Edited::read(input)? })),
             _ => Err(malformed()),
         }
     }
@@ -105,14 +137,20 @@ impl Case {
         Ok(Case::Read { table, codes, first, lent, times })
     }
 
-    fn read_update(input: &mut impl Read) -> io::Result<Case> {
-        let table = read_table(input)?;
-        let row = read_words(input, MOST_ROW_WORDS)?;
-        let edits = read_words(input, MOST_EDIT_WORDS)?;
-        let put = read_words(input, MOST_CODES)?;
+    fn read_update(input: &mut impl Read, times: u32) -> io::Result<Case> {
+        let edited = Edited::read(input)?;
         let lent = read_lent(input)?;
-        Ok(Case::Update { table, row, edits, put, lent })
+        Ok(Case::Update { edited, lent, times })
     }
+}
+
+/// The letter of a call made once, or that of one made many times and their number.
+fn write_kind(output: &mut impl Write, once: &[u8], many: &[u8], times: u32) -> io::Result<()> {
+    if times == 1 {
+        return output.write_all(once);
+    }
+    output.write_all(many)?;
+    write_number(output, times)
 }
 
 fn write_number(output: &mut impl Write, number: u32) -> io::Result<()> {

@@ -5,7 +5,7 @@ use std::io::{self, Write};
 use crate::answer::{MOST_TOKENS, ROOM_WORDS, TREE_WORDS};
 use crate::sheet::{read_sheet, Sheet};
 use crate::tools::case::{
-    Case, Lent, MOST_CODES, MOST_ROOM_WORDS, MOST_TABLE_BYTES, MOST_TREE_WORDS,
+    Case, Edited, Lent, MOST_CODES, MOST_ROOM_WORDS, MOST_TABLE_BYTES, MOST_TREE_WORDS,
 };
 use crate::tools::edit_lists::{damage_edits, words_of, EditMaker, EditWords};
 use crate::tools::grammars::{random_plan, vary_plan};
@@ -112,7 +112,8 @@ impl CaseMaker {
             let EditWords { words, put } = edits;
             let lent = self.lent();
             let table = self.sometimes_spoiled(table);
-            return Case::Update { table, row, edits: words, put, lent };
+            let edited = Edited { table, row, edits: words, put };
+            return Case::Update { edited, lent, times: 1 };
         }
     }
 

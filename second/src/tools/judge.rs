@@ -4,7 +4,10 @@ use std::hint::black_box;
 use std::io::{self, BufRead, Write};
 
 use crate::answer::{Answer, ROOM_WORDS};
-use crate::tools::case::{Case, Lent, MOST_ROOM_WORDS, MOST_TREE_WORDS};
+use crate::check::accepted_sheet;
+use crate::edits::{edits_in_rule, reading_list, Element};
+use crate::tools::case::{Case, Edited, Lent, MOST_ROOM_WORDS, MOST_TREE_WORDS};
+use crate::tree::tree_in_order;
 use crate::{check, read_afresh, update};
 
 const TREE_FILL: u32 = 2_779_096_485;
@@ -33,7 +36,7 @@ impl Judge {
         Judge { tree: vec![0; MOST_TREE_WORDS], room: vec![0; MOST_ROOM_WORDS] }
     }
 
-    /// One line for a table, three for a reading or an update.
+    /// One line for a table or a reading list, three for a reading or an update.
     pub fn lines_for(&mut self, case: &Case) -> String {
         match case {
             Case::Table { table } => format!("{}\n", check(table).number()),
@@ -43,9 +46,17 @@ impl Judge {
                 }
                 read_afresh(table, codes, *first, tree, room)
             }),
-            Case::Update { table, row, edits, put, lent } => {
-                self.told(*lent, |tree, room| update(table, row, edits, put, tree, room))
-            }
+            Case::Update { edited, lent, times } => self.told(*lent, |tree, room| {
+                let Edited { table, row, edits, put } = edited;
+                for _ in 1..*times {
+                    black_box(update(table, row, edits, put, tree, room));
+                }
+                update(table, row, edits, put, tree, room)
+            }),
+            Case::List { edited } => match list_line(edited) {
+                Ok(line) => line,
+                Err(number) => format!("{number}\n"),
+            },
         }
     }
 
@@ -63,6 +74,24 @@ impl Default for Judge {
     fn default() -> Judge {
         Judge::new()
     }
+}
+
+/// The reading list in reading order: a piece as its root's record and its nodes, an inserted code
+/// behind a plus. Or the number of refusal.
+fn list_line(edited: &Edited) -> Result<String, u32> {
+    let sheet = accepted_sheet(&edited.table)?;
+    let old = tree_in_order(&sheet, &edited.row).ok_or(5u32)?;
+    let tokens = old.token_nodes.len();
+    let edits = edits_in_rule(&sheet, tokens, &edited.edits, &edited.put).ok_or(6u32)?;
+    let mut line = String::from("list");
+    for element in reading_list(&old, &edits, &edited.put).iter().rev() {
+        line.push_str(&match *element {
+            Element::Old(node) => format!(" {node}/{}", old.nodes[node].size),
+            Element::Put(code) => format!(" +{code}"),
+        });
+    }
+    line.push('\n');
+    Ok(line)
 }
 
 /// The answer in decimal, then the lines on tree and room.

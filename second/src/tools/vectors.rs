@@ -1,7 +1,7 @@
 //! Vector files: each line of JSON as a case, with the lines that a right judge prints for it.
 
 use crate::answer::{Answer, Counts};
-use crate::tools::case::{Case, Lent};
+use crate::tools::case::{Case, Edited, Lent};
 use crate::tools::json::Json;
 use crate::tools::judge::{three_lines, written_line};
 
@@ -48,11 +48,14 @@ fn case_of(json: &Json) -> Option<Case> {
             times: 1,
         }),
         "update" => Some(Case::Update {
-            table,
-            row: words_of(json.field("row")?)?,
-            edits: words_of(json.field("edits")?)?,
-            put: words_of(json.field("codes")?)?,
+            edited: Edited {
+                table,
+                row: words_of(json.field("row")?)?,
+                edits: words_of(json.field("edits")?)?,
+                put: words_of(json.field("codes")?)?,
+            },
             lent: lent_of(json)?,
+            times: 1,
         }),
         _ => None,
     }

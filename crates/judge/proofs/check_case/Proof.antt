@@ -6,12 +6,6 @@ use borrow.Author.Needs.{needs}
 use Rattle.judge.proofs.check_case.Statement.{statement}
 use Rattle.judge.proofs.check_case.Tie as tie
 
-table-row-requires : tie.Need-table-row-requires
-table-row-requires c κs = search needs
-
-slice-aggregate-read-bytes : tie.Need-slice-aggregate-read-bytes
-slice-aggregate-read-bytes c = search needs
-
 read-bytes-requires : tie.Need-read-bytes-requires
 read-bytes-requires c κs = search needs
 
@@ -24,11 +18,11 @@ malformed-requires c κs = search needs
 enum-known-g : tie.Need-enum-known-g
 enum-known-g c = search needs
 
-array-share-prefix-table : tie.Need-array-share-prefix-table
-array-share-prefix-table c = let h = got _ (c .before .g .given .1) (c .before .before .before .before .read-bytes .ensures) in search needs
+slice-reshare-prefix-check-table : tie.Need-slice-reshare-prefix-check-table
+slice-reshare-prefix-check-table c = search (needs, got)
 
 slice-aggregate-check-table : tie.Need-slice-aggregate-check-table
-slice-aggregate-check-table c = let h = got _ (c .before .before .g .given .1) (c .before .before .before .before .before .read-bytes .ensures) in sym (length-take-le _ _ (search needs))
+slice-aggregate-check-table c = sym (length-take-le _ _ (search (needs, got)))
 
 check-table-requires : tie.Need-check-table-requires
 check-table-requires c κs = search needs
@@ -36,8 +30,14 @@ check-table-requires c κs = search needs
 tell-check-requires : tie.Need-tell-check-requires
 tell-check-requires c κs = search needs
 
+same-length : tie.Need-same-length
+same-length c = search needs
+
 returns : tie.Need-returns
 returns c = search needs
+
+same-length-2 : tie.Need-same-length-2
+same-length-2 c = search needs
 
 returns-2 : tie.Need-returns-2
 returns-2 c = search needs
@@ -46,15 +46,15 @@ pub check-case-spec : {M : Type 1} → statement M
 check-case-spec =
     tie.close
     (tie.spec
-    table-row-requires
-    slice-aggregate-read-bytes
     read-bytes-requires
     enum-told
     malformed-requires
     enum-known-g
-    array-share-prefix-table
+    slice-reshare-prefix-check-table
     slice-aggregate-check-table
     check-table-requires
     tell-check-requires
+    same-length
     returns
+    same-length-2
     returns-2)

@@ -37,7 +37,7 @@ same-length-2 : tie.Need-same-length-2
 same-length-2 c = search needs
 
 returns-3 : tie.Need-returns-3
-returns-3 c = got _ (c .before .before .before .before .before .before .g .given .1) (c .before .before .before .before .before .before .before .before .read-count .ensures)
+returns-3 c = let h = got _ (c .before .before .before .before .before .before .g .given .1) (c .before .before .before .before .before .before .before .before .read-count .ensures) in search needs
 
 pub read-bytes-spec : {M : Type 1} → statement M
 read-bytes-spec =

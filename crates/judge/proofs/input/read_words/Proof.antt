@@ -1,8 +1,5 @@
--- `judge::input::read_words` meets its contract: the count is within the row's length, so four bytes a word are within the other's.
-use mathlib.Core.Path.{sym}
-use lib.Seq.{length-take-le}
-use Rattle.judge.specs.Fields.{got}
-use native.Mathlib.Omega.{arith}
+-- `judge::input::read_words` meets its contract: the count is within the row's length. Assumes nothing.
+use Rattle.judge.specs.Fields.{got, got-kept}
 use borrow.Author.Needs.{needs}
 use Rattle.judge.proofs.input.read_words.Statement.{statement}
 use Rattle.judge.proofs.input.read_words.Tie as tie
@@ -16,26 +13,14 @@ enum-told c = search needs
 enum-known-g : tie.Need-enum-known-g
 enum-known-g c = search needs
 
-mul-m : tie.Need-mul-m
-mul-m c = let h = got _ (c .before .g .given .1) (c .before .before .before .read-count .ensures) in omega arith
-
-slice-relend-prefix-read-full : tie.Need-slice-relend-prefix-read-full
-slice-relend-prefix-read-full c = let h = got _ (c .before .g .given .1) (c .before .before .before .read-count .ensures) in omega arith
-
-slice-aggregate-read-full : tie.Need-slice-aggregate-read-full
-slice-aggregate-read-full c = let h = got _ (c .before .before .g .given .1) (c .before .before .before .before .read-count .ensures) in sym (length-take-le _ _ (omega arith))
-
-read-full-requires : tie.Need-read-full-requires
-read-full-requires c κs = search needs
+read-all-requires : tie.Need-read-all-requires
+read-all-requires c κs = search (needs, got)
 
 same-length : tie.Need-same-length
 same-length c = search needs
 
 returns : tie.Need-returns
-returns c = search needs
-
-spread-requires : tie.Need-spread-requires
-spread-requires c κs = let h = got _ (c .before .before .before .before .before .before .before .before .g .given .1) (c .before .before .before .before .before .before .before .before .before .before .read-count .ensures) in search needs
+returns c = search (needs, got-kept)
 
 returns-2 : tie.Need-returns-2
 returns-2 c = search needs
@@ -43,11 +28,8 @@ returns-2 c = search needs
 same-length-2 : tie.Need-same-length-2
 same-length-2 c = search needs
 
-same-length-3 : tie.Need-same-length-3
-same-length-3 c = search needs
-
 returns-3 : tie.Need-returns-3
-returns-3 c = got _ (c .before .before .before .before .before .before .before .before .before .before .before .g .given .1) (c .before .before .before .before .before .before .before .before .before .before .before .before .before .read-count .ensures)
+returns-3 c = search needs
 
 pub read-words-spec : {M : Type 1} → statement M
 read-words-spec =
@@ -56,14 +38,9 @@ read-words-spec =
     read-count-requires
     enum-told
     enum-known-g
-    mul-m
-    slice-relend-prefix-read-full
-    slice-aggregate-read-full
-    read-full-requires
+    read-all-requires
     same-length
     returns
-    spread-requires
     returns-2
     same-length-2
-    same-length-3
     returns-3)

@@ -7,10 +7,10 @@ use Rattle.judge.proofs.input.spread.Statement.{statement}
 use Rattle.judge.proofs.input.spread.Tie as tie
 
 abbrev Inv-loop : tie.InvT-loop
-Inv-loop bytes row₀ n i₀ row i = (i ≤ n) × (length row ≡ length row₀)
+Inv-loop bytes row₀ at n i₀ row i = (i ≤ n) × (length row ≡ length row₀)
 
 abbrev μ-loop : tie.MeasureT-loop
-μ-loop bytes row₀ n i₀ row i = n - i
+μ-loop bytes row₀ at n i₀ row i = n - i
 
 loop-holds : tie.Need-loop-holds Inv-loop μ-loop
 loop-holds c = search needs
@@ -20,6 +20,9 @@ mul-word-at c = search needs
 
 word-at-requires : tie.Need-word-at-requires Inv-loop μ-loop
 word-at-requires c κs = search needs
+
+add-row : tie.Need-add-row Inv-loop μ-loop
+add-row c = search needs
 
 mul-row : tie.Need-mul-row Inv-loop μ-loop
 mul-row c = search needs
@@ -51,6 +54,7 @@ spread-spec =
     loop-holds
     mul-word-at
     word-at-requires
+    add-row
     mul-row
     slice-write-row
     add-i
