@@ -51,3 +51,50 @@ pub fn edits_right(t: &[u8], edits: &[Edit], put: &[u32], n: usize) -> bool
     }
     edits::walked_right(t, put, n, w)
 }
+
+// Passes one edit: writes the marks of the places up to its own.
+fn mark(room: &mut [u32], m: edits::Marks, e: Edit) -> edits::Marks
+    requires { ⌜
+        (4098 ≤ length (now room)) × ((row r : List ℕ) × (n : ℕ) × (k : ℕ) × Marking row n r (now room) k m × Record row k (edit e))
+        ⌝ }
+    ensures { λ w.
+        ⌜
+        ((row r : List ℕ) (n k : ℕ)
+        → Marking row n r (now (room .entry)) k m
+        → Record row k (edit e)
+        → Marking row n r (now (room .exit)) (k + 3) w)
+        ⌝ }
+{
+    edits::mark_edit(room, m, e.place, e.removed, e.put)
+}
+
+// Makes the reading list of an update in the working room: the largest clean pieces of the old row and the inserted codes, the next one
+// last; how many words it has. The counts of the old row's tokens stand behind it.
+pub fn make_list(old: &[u32], edits: &[Edit], put: &[u32], room: &mut [u32]) -> usize
+    requires { ⌜ 16384 ≤ length (now room) ⌝ }
+    requires { ⌜
+        ((t : List ℕ)
+        × (tree : NRow)
+        × (es : List EditOf)
+        × (T t ≤ 256)
+        × InOrder t (now old) tree
+        × EditsInOrder t (yield (erase tree)) (wordsOf (now edits)) (now put) es)
+        ⌝ }
+    ensures { λ m.
+        ⌜
+        ((t : List ℕ) (tree : NRow) (es : List EditOf)
+        → T t ≤ 256
+        → InOrder t (now (old .entry)) tree
+        → EditsInOrder t (yield (erase tree)) (wordsOf (now (edits .entry))) (now (put .entry)) es
+        → Pending t (now (old .entry)) (now (put .entry)) (now (room .exit)) m (readingList (erase tree) es (now (put .entry))))
+        ⌝ }
+    ensures { λ m. ⌜ (m ≤ 2048) × Counted (now (old .entry)) (now (room .exit)) × (drop 16384 (now (room .exit)) ≡ drop 16384 (now (room .entry))) ⌝ }
+{
+    let mut m = edits::begin_marks(old, room);
+    let mut i: usize = 0;
+    while i < edits.len() {
+        m = mark(room, m, edits[i]);
+        i += 1;
+    }
+    edits::list_marked(old, put, room, m)
+}
