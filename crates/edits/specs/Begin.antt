@@ -12,13 +12,13 @@ use Rattle.theory.specs.Edits.FromMarks.{pieces}
 use Rattle.theory.specs.Machine.Rows.{toks-length, append-∅}
 use Rattle.tree.specs.Rows.{holds-stands}
 use Rattle.tree.specs.Shaped.{Holds}
-use Rattle.tree.specs.Tokens.{tokens, Counts}
+use Rattle.tree.specs.Tokens.{Counts}
 use Rattle.list.specs.Pieces.{all-old, tokens-forest}
 use Rattle.list.specs.Pending.{tokensAt, Pending, none, Counted, pending-toks}
 use Rattle.list.specs.Opening.{Elsewhere}
 use Rattle.edits.specs.Before.{putBefore, put-all, put-at, put-within}
 use Rattle.edits.specs.Fits.{editAt, Record}
-use Rattle.edits.specs.Marks.{putsAt, mark2, Orderly, Marked, Marking, Clear, next-record, clear-end, marks-begin, marks-end}
+use Rattle.edits.specs.Marks.{putsAt, mark2, Marked, Marking, Clear, next-record, clear-end, marks-begin, marks-end}
 use Rattle.edits.specs.declared.Marks.{Marks}
 use Rattle.edits.specs.Pushing.{Pushes}
 use Rattle.edits.specs.Going.{Case, many, allMarks, list, few-tokens, few-put, few-list, case-orderly, Going, high-word, counts-stand, marks-stand}
@@ -40,9 +40,6 @@ module _ {old r r₁ : List ℕ} {all : ℕ} (K : Counts old r r₁ tokensAt (ge
       let h = holds-stands old (C .tree) (C .stands .holds) in
       is ∙ K .counted (getD old 0 0) (omega arith) ∙ tokens-forest (getD old 0 0) (C .tree) (C .few) (all-old (C .stands)) (omega (arith, h .0 .0))
       ∙ omega (arith, toks-length (erase (C .tree)))
-
-  all-orderly : (C : Case old) → Orderly (C .edits) all (C .es)
-  all-orderly C = rw (all-many C) (case-orderly C)
 
   -- the room r₂ has the marks too
   module _ {r₂ : List ℕ} (few : getD old 0 0 ≤ 2048) (small : all ≤ 2048) where
@@ -107,6 +104,13 @@ pub record Listed {old : List ℕ} (C : Case old) (r r′ : List ℕ) (k : ℕ) 
   pub few : k ≤ 2048
   pub counted : Counted old r′
   pub rest : drop 16384 r′ ≡ drop 16384 r
+
+-- the edits of some update with the codes `put` are all passed; once the list is made, it is the one of that update
+abbrev pub AllPassed : List ℕ → List ℕ → List ℕ → Marks → Type 0
+AllPassed old put r m = (C : Case old) × (b : List ℕ) × (C .put ≡ put) × Ready C b r (length (C .edits)) m
+
+abbrev pub ListMade : List ℕ → List ℕ → List ℕ → Marks → List ℕ → ℕ → Type 0
+ListMade old put r m r′ k = (C : Case old) (b : List ℕ) → C .put ≡ put → Ready C b r (length (C .edits)) m → Listed C b r′ k
 
 pub ready : {old : List ℕ} (C : Case old) {r base : List ℕ} → Counts old r base tokensAt (getD old 0 0) → length base ≡ length r → 4098 ≤ length base
     → Ready C r (mark2 base 0 0 0) 0 (record { at = 0; puts = 0; out = 0; until = 0 })

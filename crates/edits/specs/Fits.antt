@@ -94,7 +94,6 @@ fits-none from n left row (e ∷ es) F = absurd (omega (arith, ap length (F .rec
 -- ---- the walk over the row
 -- the first i words are records in order that end at `from`, use `used` codes of `left` and remove `out` tokens
 pub record Walking (row : List ℕ) (n left i from used out : ℕ) : Type 0 where
-  pub inside : i ≤ length row
   pub some : used ≤ left
   pub low : out ≤ from
   pub high : from ≤ n
@@ -105,7 +104,6 @@ walk-begin : (row : List ℕ) (n left : ℕ) → Walking row n left 0 0 0 0
 walk-begin row n left =
     let z : left - 0 ≡ left = omega arith in
     record {
-      inside = omega arith;
       some = omega arith;
       low = omega arith;
       high = omega arith;
@@ -122,7 +120,6 @@ module _ {row : List ℕ} {n left i from used out : ℕ} (W : Walking row n left
       let l = W .low in let s = W .some in
       let z : left - used - putInAt row i ≡ left - (used + putInAt row i) = omega arith in
       record {
-        inside = a;
         some = omega arith;
         low = omega arith;
         high = c;

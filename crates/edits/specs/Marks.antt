@@ -84,6 +84,14 @@ pub record Marking (row : List ℕ) (n : ℕ) (r r′ : List ℕ) (k : ℕ) (m :
   pub holds : Holds es (m .at) r′
   pub apart : Apart (m .at) r r′
 
+-- e is the next edit of some row, of which the marks are written in r as far as m; once it is passed, the same holds of r′ and w, whatever
+-- the row is
+abbrev pub NextEdit : List ℕ → Marks → Edit → Type 0
+NextEdit r m e = (row b : List ℕ) × (n : ℕ) × (k : ℕ) × Marking row n b r k m × Record row k e
+
+abbrev pub EditPassed : List ℕ → Marks → Edit → List ℕ → Marks → Type 0
+EditPassed r m e r′ w = (row b : List ℕ) (n k : ℕ) → Marking row n b r k m → Record row k e → Marking row n b r′ (k + 3) w
+
 -- ---- one place more
 holds-more : (es : List Edit) (i p g : ℕ) (r : List ℕ) → Holds es i r → i < 2048 → 4098 ≤ length r → p ≡ putBefore (suc i) es → g ≡ goneBefore (suc i) es
     → Holds es (suc i) (mark2 r (suc i) p g)

@@ -9,16 +9,16 @@ ghost use Rattle.definitions.specs.Edits.{Edit, EditsInOrder};
 ghost use Rattle.theory.specs.Check.Says.{Says};
 ghost use Rattle.theory.specs.Edits.FromMarks.{readingList};
 ghost use Rattle.edits.specs.Codes.{Known, Knowns};
-ghost use Rattle.edits.specs.Fits.{Record, Fit, Passes, broken, Passed};
+ghost use Rattle.edits.specs.Fits.{Fit, Passes, broken, Passed};
 ghost use Rattle.edits.specs.Judged.{Right};
 ghost use Rattle.tree.specs.Shaped.{Holds};
 ghost use Rattle.list.specs.Pending.{Pending, Counted};
 ghost use Rattle.list.specs.Opening.{Elsewhere};
-ghost use Rattle.edits.specs.Marks.{putsAt, mark2, inside, Marking, Clear};
+ghost use Rattle.edits.specs.Marks.{putsAt, mark2, inside, Marking, Clear, NextEdit, EditPassed};
 ghost use Rattle.edits.specs.Pushing.{Pushes};
 ghost use Rattle.edits.specs.Going.{Case, Going, list};
 ghost use Rattle.edits.specs.Stepping.{Room, CleanBy};
-ghost use Rattle.edits.specs.Begin.{Ready, Listed};
+ghost use Rattle.edits.specs.Begin.{Ready, AllPassed, ListMade};
 
 // ---- the inserted codes
 
@@ -208,17 +208,8 @@ fn mark_to(room: &mut [u32], m: Marks, to: usize) -> Marks
 
 // Passes one edit: writes the marks of the places up to its own.
 pub fn mark_edit(room: &mut [u32], m: Marks, place: u32, removed: u32, put: u32) -> Marks
-    requires { ⌜
-        (4098 ≤ length (now room))
-        × ((row r : List ℕ) × (n : ℕ) × (k : ℕ) × Marking row n r (now room) k m × Record row k (record { place = place; removed = removed; put = put }))
-        ⌝ }
-    ensures { λ w.
-        ⌜
-        ((row r : List ℕ) (n k : ℕ)
-        → Marking row n r (now (room .entry)) k m
-        → Record row k (record { place = place; removed = removed; put = put })
-        → Marking row n r (now (room .exit)) (k + 3) w)
-        ⌝ }
+    requires { ⌜ (4098 ≤ length (now room)) × NextEdit (now room) m (record { place = place; removed = removed; put = put }) ⌝ }
+    ensures { λ w. ⌜ EditPassed (now (room .entry)) m (record { place = place; removed = removed; put = put }) (now (room .exit)) w ⌝ }
 {
     let at = tree::wide(place);
     let w = mark_to(room, m, at);
@@ -318,17 +309,10 @@ pub fn begin_marks(old: &[u32], room: &mut [u32]) -> Marks
     }
 }
 
-// Makes the reading list of an update once all edits are passed: the largest clean pieces of the old row and the inserted codes, the next
-// one last; how many words it has. The counts of the old row's tokens stand behind it.
+// Makes the reading list once all edits are passed.
 pub fn list_marked(old: &[u32], put: &[u32], room: &mut [u32], m: Marks) -> usize
-    requires { ⌜ (16384 ≤ length (now room)) × ((C : Case (now old)) × (r : List ℕ) × (C .put ≡ now put) × Ready C r (now room) (length (C .edits)) m) ⌝ }
-    ensures { λ k.
-        ⌜
-        ((C : Case (now (old .entry))) (r : List ℕ)
-        → C .put ≡ now (put .entry)
-        → Ready C r (now (room .entry)) (length (C .edits)) m
-        → Listed C r (now (room .exit)) k)
-        ⌝ }
+    requires { ⌜ (16384 ≤ length (now room)) × AllPassed (now old) (now put) (now room) m ⌝ }
+    ensures { λ k. ⌜ ListMade (now (old .entry)) (now (put .entry)) (now (room .entry)) m (now (room .exit)) k ⌝ }
 {
     let n = tree::count_at(old);
     let all = tree::wide(room[list::TOKENS + n]);
@@ -338,7 +322,8 @@ pub fn list_marked(old: &[u32], put: &[u32], room: &mut [u32], m: Marks) -> usiz
     list_pieces(old, room, n, k)
 }
 
-// Makes the reading list of an update in the working room.
+// Makes the reading list of an update in the working room: the largest clean pieces of the old row and the inserted codes, the next one
+// last; how many words it has. The counts of the old row's tokens stand behind it.
 pub fn make_list(old: &[u32], edits: &[u32], put: &[u32], room: &mut [u32]) -> usize
     requires { ⌜ 16384 ≤ length (now room) ⌝ }
     requires { ⌜

@@ -4,9 +4,8 @@ use mathlib.Core.Path.{_≡_, refl, _∙_}
 use mathlib.Core.List.{List}
 use Prim.Native.Nat.{ℕ, _-_, _≤_}
 use native.Mathlib.Omega.{arith}
-use lib.ListN.{length, length-set}
+use lib.ListN.{length}
 use borrow.Author.Needs.{needs}
-use Rattle.edits.specs.declared.Marks.{Marks}
 use Rattle.edits.specs.Marks.{Marking, Clear, marks-few, marks-place}
 use Rattle.edits.proofs.mark_to.Statement.{statement}
 use Rattle.edits.proofs.mark_to.Tie as tie

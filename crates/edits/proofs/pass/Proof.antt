@@ -1,5 +1,5 @@
 -- `edits::pass` meets its contract: the edit fits or breaks the rules. Assumes nothing.
-use mathlib.Core.Path.{refl, sym}
+use mathlib.Core.Path.{refl}
 use native.Mathlib.Omega.{arith}
 use borrow.Author.Needs.{needs}
 use Rattle.theory.specs.Check.Says.{refused}
