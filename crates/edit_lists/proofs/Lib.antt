@@ -1,3 +1,3 @@
 -- What the proofs by hand share.
 pub mod Again
-pub mod Bodies
+pub mod Hand

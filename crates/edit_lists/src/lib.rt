@@ -10,8 +10,8 @@ ghost use Rattle.definitions.specs.Edits.{Edit as EditOf, EditsInOrder};
 ghost use Rattle.theory.specs.Check.Says.{Says};
 ghost use Rattle.theory.specs.Edits.FromMarks.{readingList};
 ghost use Rattle.list.specs.Pending.{Pending, Counted};
-ghost use Rattle.edits.specs.Fits.{Record, Passes};
-ghost use Rattle.edits.specs.Marks.{Marking};
+ghost use Rattle.edits.specs.Fits.{Passes};
+ghost use Rattle.edits.specs.Marks.{NextEdit, EditPassed};
 ghost use Rattle.edit_lists.specs.Words.{edit, wordsOf};
 
 // "Each edit is a record of place, tokens removed, tokens put in."
@@ -54,16 +54,8 @@ pub fn edits_right(t: &[u8], edits: &[Edit], put: &[u32], n: usize) -> bool
 
 // Passes one edit: writes the marks of the places up to its own.
 fn mark(room: &mut [u32], m: edits::Marks, e: Edit) -> edits::Marks
-    requires { ⌜
-        (4098 ≤ length (now room)) × ((row r : List ℕ) × (n : ℕ) × (k : ℕ) × Marking row n r (now room) k m × Record row k (edit e))
-        ⌝ }
-    ensures { λ w.
-        ⌜
-        ((row r : List ℕ) (n k : ℕ)
-        → Marking row n r (now (room .entry)) k m
-        → Record row k (edit e)
-        → Marking row n r (now (room .exit)) (k + 3) w)
-        ⌝ }
+    requires { ⌜ (4098 ≤ length (now room)) × NextEdit (now room) m (edit e) ⌝ }
+    ensures { λ w. ⌜ EditPassed (now (room .entry)) m (edit e) (now (room .exit)) w ⌝ }
 {
     edits::mark_edit(room, m, e.place, e.removed, e.put)
 }
