@@ -1,10 +1,10 @@
--- The words of a list of edits: three an edit, in order.
+-- The words of a list of edit structs: those that document 01 has for its edits, three an edit, in order.
 use mathlib.Core.Path.{_≡_, refl}
-use mathlib.Core.List.{List, [], _∷_}
+use mathlib.Core.List.{List, [], _∷_, map}
 use Prim.Native.Nat.{ℕ, zero, suc, _+_, _*_, _<_}
 use native.Mathlib.Omega.{arith}
 use lib.ListN.{length, getD}
-use Rattle.definitions.specs.Edits.{Edit as EditOf}
+use Rattle.definitions.specs.Edits.{Edit as EditOf, editWords}
 use Rattle.edits.specs.Fits.{editAt, Record}
 use Rattle.edit_lists.specs.declared.Edit.{Edit}
 
@@ -12,9 +12,8 @@ use Rattle.edit_lists.specs.declared.Edit.{Edit}
 abbrev pub edit : Edit → EditOf
 edit e = record { place = e .place; removed = e .removed; put = e .put }
 
-pub wordsOf : List Edit → List ℕ
-wordsOf [] = []
-wordsOf (e ∷ es) = e .place ∷ e .removed ∷ e .put ∷ wordsOf es
+unfoldable pub wordsOf : List Edit → List ℕ
+wordsOf es = editWords (map edit es)
 
 pub words-length : (es : List Edit) → length (wordsOf es) ≡ length es * 3
 unfolding wordsOf

@@ -2,7 +2,7 @@
 // outside the prover's own walk, so there are two, each a loop that hands one edit on by value, and both are proved by hand.
 ghost use mathlib.Core.Path.{_≡_};
 ghost use mathlib.Core.List.{List};
-ghost use Prim.Native.Nat.{ℕ, _+_, _≤_};
+ghost use Prim.Native.Nat.{ℕ, _≤_};
 ghost use lib.ListN.{length, drop};
 ghost use Rattle.definitions.specs.Sheet.{T, Layout};
 ghost use Rattle.definitions.specs.Tree.{Tok, yield, NRow, erase, InOrder};

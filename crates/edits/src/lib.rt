@@ -90,7 +90,7 @@ pub fn pass(w: Walk, place: u32, removed: u32, put: u32, n: usize, left: usize) 
 }
 
 // The walk once the rules are broken.
-pub fn broken(n: usize) -> Walk
+fn broken(n: usize) -> Walk
     requires { ⌜ n ≤ 2048 ⌝ }
     ensures { λ r. ⌜ r ≡ broken n ⌝ }
 {
