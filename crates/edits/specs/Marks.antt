@@ -13,7 +13,8 @@ use lib.Seq.{getD-set-same, getD-set-other}
 use borrow.Author.Tests.{le-ltb, le-leb}
 use Rattle.definitions.specs.Edits.{Edit, editWords, Places, putIn, gone}
 use Rattle.edits.specs.Before.{putBefore, goneBefore, put-first, put-none, gone-none}
-use Rattle.edits.specs.Fits.{placeAt, removedAt, putInAt, editAt, Fits, Next, fits-next, fits-none, one-row}
+use Rattle.edits.specs.Fits.{placeAt, removedAt, editAt, Record, Fits, Fit, Next, fits-next, fits-none, one-row}
+use Rattle.edits.specs.declared.Marks.{Marks}
 
 -- where the two rows of marks start
 abbrev pub putsAt : ℕ
@@ -56,24 +57,40 @@ pub record Comes (row : List ℕ) (k i : ℕ) : Type 0 where
   pub some : k < length row
   pub here : placeAt row k ≡ i
 
--- while they are written: those of the places up to i stand; the edits before word k are at places up to i, put in `puts` tokens and
--- remove tokens up to `until`
-pub record Marking (row : List ℕ) (n : ℕ) (r r′ : List ℕ) (k i puts out until : ℕ) : Type 0 where
+-- no edit from word k on comes before place `to`
+pub record Clear (row : List ℕ) (k n at to : ℕ) : Type 0 where
+  pub up : at ≤ to
+  pub high : to ≤ n
+  pub free : (i : ℕ) → i < to → Comes row k i → ⊥
+
+-- while they are written in r′, r as it was before: those of the places up to `at` stand; the edits before word k are at those places, put
+-- in `puts` tokens and remove tokens up to `until`
+pub record Marking (row : List ℕ) (n : ℕ) (r r′ : List ℕ) (k : ℕ) (m : Marks) : Type 0 where
   pub es : List Edit
   pub rest : List Edit
   pub left : ℕ
   pub all : Orderly row n es
-  pub fits : Fits until n left (drop k row) rest
-  pub soon : Places i n rest
-  pub enough : puts + left ≡ putIn es
+  pub fits : Fits (m .until) n left (drop k row) rest
+  pub soon : Places (m .at) n rest
+  pub enough : m .puts + left ≡ putIn es
   pub cursor : k ≤ length row
-  pub few : out ≤ i
+  pub small : n ≤ 2048
+  pub short : m .at ≤ n
+  pub few : m .out ≤ m .at
   pub long : length r′ ≡ length r
-  pub later : (j : ℕ) → i < j → putBefore j es ≡ puts + putBefore j rest
-  pub removed : (j : ℕ) → i ≤ j → gone j es ≡ (ltb j until || gone j rest)
-  pub counted : out ≡ goneBefore i es
-  pub holds : Holds es i r′
-  pub apart : Apart i r r′
+  pub later : (j : ℕ) → m .at < j → putBefore j es ≡ m .puts + putBefore j rest
+  pub removed : (j : ℕ) → m .at ≤ j → gone j es ≡ (ltb j (m .until) || gone j rest)
+  pub counted : m .out ≡ goneBefore (m .at) es
+  pub holds : Holds es (m .at) r′
+  pub apart : Apart (m .at) r r′
+
+-- e is the next edit of some row, of which the marks are written in r as far as m; once it is passed, the same holds of r′ and w, whatever
+-- the row is
+abbrev pub NextEdit : List ℕ → Marks → Edit → Type 0
+NextEdit r m e = (row b : List ℕ) × (n : ℕ) × (k : ℕ) × Marking row n b r k m × Record row k e
+
+abbrev pub EditPassed : List ℕ → Marks → Edit → List ℕ → Marks → Type 0
+EditPassed r m e r′ w = (row b : List ℕ) (n k : ℕ) → Marking row n b r k m → Record row k e → Marking row n b r′ (k + 3) w
 
 -- ---- one place more
 holds-more : (es : List Edit) (i p g : ℕ) (r : List ℕ) → Holds es i r → i < 2048 → 4098 ≤ length r → p ≡ putBefore (suc i) es → g ≡ goneBefore (suc i) es
@@ -120,10 +137,9 @@ places-from a b n (e ∷ es) h p = let x = p .0 in (omega arith, p .1, p .2)
 next-gone : (j i until : ℕ) (e : Edit) (fs : List Edit) → e .place ≡ i → until ≤ i → i ≤ j → (ltb j until || gone j (e ∷ fs)) ≡ (ltb j (i + e .removed) || gone j fs)
 next-gone j i until e fs a h k = rw (le-ltb j until (omega arith), le-leb (e .place) j (omega arith), a) refl
 
-pub marks-begin : (row : List ℕ) (n : ℕ) (r : List ℕ) → ((es : List Edit) × Orderly row n es) → 4098 ≤ length r → Marking row n (mark2 r 0 0 0) (mark2 r 0 0 0) 0 0 0 0 0
-marks-begin row n r given l =
-    let es = given .0 in
-    let O = given .1 in
+pub marks-begin : (row : List ℕ) (n : ℕ) (r : List ℕ) (es : List Edit) → Orderly row n es → n ≤ 2048 → 4098 ≤ length r
+    → Marking row n r (mark2 r 0 0 0) 0 (record { at = 0; puts = 0; out = 0; until = 0 })
+marks-begin row n r es O small l =
     let z : (j : ℕ) → j ≤ 0 → j ≡ 0 = λ j h. omega arith in
     record {
       es = es;
@@ -134,8 +150,10 @@ marks-begin row n r given l =
       soon = O .places;
       enough = omega arith;
       cursor = omega arith;
+      small = small;
+      short = omega arith;
       few = omega arith;
-      long = refl;
+      long = length-set (set r 0 0) 2049 0 ∙ length-set r 0 0;
       later = λ j h. omega arith;
       removed = λ j h. rw (le-ltb j 0 (omega arith)) refl;
       counted = refl;
@@ -143,70 +161,99 @@ marks-begin row n r given l =
         puts = λ j h. rw (z j h) (getD-set-other (set r 0 0) 2049 0 0 0 (λ e. omega arith) ∙ getD-set-same r 0 0 0 (omega arith) ∙ sym (put-none 0 0 n es (O .places) (omega arith)));
         gones = λ j h. rw (z j h) (getD-set-same (set r 0 0) 2049 0 0 (omega (arith, length-set r 0 0)));
       };
-      apart = record { between = λ x h k. refl; after = λ x h. refl };
+      apart = record { between = λ x h k. other x h (λ f. omega arith); after = λ x h. other x (omega arith) (λ f. omega arith) };
     }
+  where
+    other : (x : ℕ) → 0 < x → (x ≡ 2049 → ⊥) → getD (mark2 r 0 0 0) x 0 ≡ getD r x 0
+    other x h k = getD-set-other (set r 0 0) 2049 x 0 0 k ∙ getD-set-other r 0 x 0 0 (λ f. omega arith)
 
-module _ {row : List ℕ} {n : ℕ} {r r′ : List ℕ} {k i puts out until : ℕ} (M : Marking row n r r′ k i puts out until) where
+module _ {row : List ℕ} {n : ℕ} {r r′ : List ℕ} {k : ℕ} {m : Marks} (M : Marking row n r r′ k m) where
   -- the next record, if there are more words
-  pub next-edit : k < length row → Next row k until n (M .left)
-  next-edit h = fits-next row k until n (M .left) h (M .rest) (M .fits) .0
+  pub next-edit : k < length row → Next row k (m .until) n (M .left)
+  next-edit h = fits-next row k (m .until) n (M .left) h (M .rest) (M .fits) .0
 
-  pub marks-edit : Comes row k i → Marking row n r r′ (k + 3) i (puts + putInAt row k) out (i + removedAt row k)
-  marks-edit C =
-      let w = fits-next row k until n (M .left) (C .some) (M .rest) (M .fits) in
+  pub next-record : k < length row → Record row k (editAt row k)
+  next-record h = record { whole = next-edit h .whole; is = refl }
+
+  -- no edit comes before the next one; none comes after the last
+  pub clear-next : {e : Edit} → Record row k e → Clear row k n (m .at) (e .place)
+  clear-next {e} R =
+      let h = R .whole in
+      let w = fits-next row k (m .until) n (M .left) (omega arith) (M .rest) (M .fits) in
+      let p : Places (m .at) n (editAt row k ∷ w .1 .0) = rw (w .1 .1) at (M .soon) in
+      let a = p .0 in
+      let b = p .1 in
+      let z : placeAt row k ≡ e .place = ap (λ (x : Edit). x .place) (R .is) in
+      record { up = omega arith; high = omega arith; free = λ i l C. let c = C .here in omega arith }
+
+  pub clear-end : k ≡ length row → Clear row k n (m .at) n
+  clear-end e = record { up = M .short; high = omega arith; free = λ i l C. let c = C .some in omega arith }
+
+  -- an edit at place `at` is passed
+  pub marks-edit : {e : Edit} → Record row k e → m .at ≡ e .place
+      → Marking row n r r′ (k + 3) (record { at = m .at; puts = m .puts + e .put; out = m .out; until = m .at + e .removed })
+  marks-edit {e} R at =
+      let h = R .whole in
+      let w = fits-next row k (m .until) n (M .left) (omega arith) (M .rest) (M .fits) in
       let N = w .0 in
       let fs = w .1 .0 in
-      let e = editAt row k in
-      let is : M .rest ≡ e ∷ fs = w .1 .1 in
-      let at = C .here in
-      let b = N .behind in
-      let f = N .few in
+      let is : M .rest ≡ e ∷ fs = w .1 .1 ∙ ap (_∷ fs) (R .is) in
+      let N′ : Fit (m .until) n (M .left) e = rw (R .is) at (N .fit) in
+      let b = N′ .behind in
+      let c = N′ .within in
+      let f = N′ .few in
       let s = M .enough in
-      let u : placeAt row k + removedAt row k ≡ i + removedAt row k = omega arith in
-      let F : Fits (i + removedAt row k) n (M .left - putInAt row k) (drop (k + 3) row) fs = rw u at (w .1 .2) in
+      let p = ap (λ (x : Edit). x .place) (R .is) in
+      let q = ap (λ (x : Edit). x .removed) (R .is) in
+      let v = ap (λ (x : Edit). x .put) (R .is) in
+      let u : placeAt row k + removedAt row k ≡ m .at + e .removed = omega arith in
+      let F : Fits (m .at + e .removed) n (M .left - e .put) (drop (k + 3) row) fs = rw (u, v) at (w .1 .2) in
       record {
         es = M .es;
         rest = fs;
-        left = M .left - putInAt row k;
+        left = M .left - e .put;
         all = M .all;
         fits = F;
-        soon = places-from i (i + removedAt row k) n fs (omega arith) (F .places);
+        soon = places-from (m .at) (m .at + e .removed) n fs (omega arith) (F .places);
         enough = omega arith;
-        cursor = N .whole;
+        cursor = h;
+        small = M .small;
+        short = M .short;
         few = M .few;
         long = M .long;
-        later = λ j h. omega (arith, M .later j h, ap (putBefore j) is, put-first j e fs (omega arith));
-        removed = λ j h. M .removed j h ∙ ap (λ (l : List Edit). ltb j until || gone j l) is ∙ next-gone j i until e fs at (omega arith) h;
+        later = λ j l. omega (arith, M .later j l, ap (putBefore j) is, put-first j e fs (omega arith));
+        removed = λ j l. M .removed j l ∙ ap (λ (x : List Edit). ltb j (m .until) || gone j x) is ∙ next-gone j (m .at) (m .until) e fs (sym at) (omega arith) l;
         counted = M .counted;
         holds = M .holds;
         apart = M .apart;
       }
 
-  -- no edit at place i is left
-  past : (Comes row k i → ⊥) → Places (suc i) n (M .rest)
+  -- no edit at place `at` is left
+  past : (Comes row k (m .at) → ⊥) → Places (suc (m .at)) n (M .rest)
   past N = by (decLt k (length row))
     where
-      by : Dec (k < length row) → Places (suc i) n (M .rest)
+      by : Dec (k < length row) → Places (suc (m .at)) n (M .rest)
       by (yes h) =
-          let w = fits-next row k until n (M .left) h (M .rest) (M .fits) in
+          let w = fits-next row k (m .until) n (M .left) h (M .rest) (M .fits) in
           let is = w .1 .1 in
-          let p : Places i n (editAt row k ∷ w .1 .0) = rw is at (M .soon) in
+          let p : Places (m .at) n (editAt row k ∷ w .1 .0) = rw is at (M .soon) in
           let a = p .0 in
-          let d : placeAt row k ≡ i → ⊥ = λ e. N (record { some = h; here = e }) in
+          let d : placeAt row k ≡ m .at → ⊥ = λ e. N (record { some = h; here = e }) in
           rw is (omega arith, p .1, p .2)
       by (no h) =
           let c = M .cursor in
           let z : k ≡ length row = omega arith in
-          rw (fits-none until n (M .left) row (M .rest) (rw z at (M .fits))) tt
+          rw (fits-none (m .until) n (M .left) row (M .rest) (rw z at (M .fits))) tt
 
-  pub marks-place : (Comes row k i → ⊥) → i < n → n ≤ 2048 → 4098 ≤ length r → (b : ℕ) → b ≡ inside i until
-      → Marking row n r (mark2 r′ (i + 1) puts (out + b)) k (i + 1) puts (out + b) until
-  marks-place N h l room b e =
+  pub marks-place : (Comes row k (m .at) → ⊥) → m .at < n → 4098 ≤ length r′ → (b : ℕ) → b ≡ inside (m .at) (m .until)
+      → Marking row n r (mark2 r′ (m .at + 1) (m .puts) (m .out + b)) k (record { at = m .at + 1; puts = m .puts; out = m .out + b; until = m .until })
+  marks-place N h room b e =
+      let i = m .at in
       let P = past N in
-      let g : gone i (M .es) ≡ ltb i until = M .removed i (omega arith) ∙ rw (gone-none i (suc i) n (M .rest) P (omega arith)) (or-false (ltb i until)) in
-      let o : goneBefore (suc i) (M .es) ≡ out + b = ap (λ (c : Bool). goneBefore i (M .es) + cond c 1 0) g ∙ omega (arith, M .counted) in
-      let p : putBefore (suc i) (M .es) ≡ puts = omega (arith, M .later (suc i) (omega arith), put-none (suc i) (suc i) n (M .rest) P (omega arith)) in
-      let long = M .long in
+      let l = M .small in
+      let g : gone i (M .es) ≡ ltb i (m .until) = M .removed i (omega arith) ∙ rw (gone-none i (suc i) n (M .rest) P (omega arith)) (or-false (ltb i (m .until))) in
+      let o : goneBefore (suc i) (M .es) ≡ m .out + b = ap (λ (c : Bool). goneBefore i (M .es) + cond c 1 0) g ∙ omega (arith, M .counted) in
+      let p : putBefore (suc i) (M .es) ≡ m .puts = omega (arith, M .later (suc i) (omega arith), put-none (suc i) (suc i) n (M .rest) P (omega arith)) in
       rw add-one (record {
         es = M .es;
         rest = M .rest;
@@ -216,13 +263,15 @@ module _ {row : List ℕ} {n : ℕ} {r r′ : List ℕ} {k i puts out until : �
         soon = P;
         enough = M .enough;
         cursor = M .cursor;
-        few = omega (arith, M .few, inside-one i until);
-        long = length-set (set r′ (putsAt + suc i) puts) (goneAt + suc i) (out + b) ∙ length-set r′ (putsAt + suc i) puts ∙ long;
+        small = M .small;
+        short = omega arith;
+        few = omega (arith, M .few, inside-one i (m .until));
+        long = length-set (set r′ (putsAt + suc i) (m .puts)) (goneAt + suc i) (m .out + b) ∙ length-set r′ (putsAt + suc i) (m .puts) ∙ M .long;
         later = λ j k. M .later j (omega arith);
         removed = λ j k. M .removed j (omega arith);
         counted = sym o;
-        holds = holds-more (M .es) i puts (out + b) r′ (M .holds) (omega arith) (omega arith) (sym p) (sym o);
-        apart = apart-more i puts (out + b) r r′ (M .apart) (omega arith);
+        holds = holds-more (M .es) i (m .puts) (m .out + b) r′ (M .holds) (omega arith) room (sym p) (sym o);
+        apart = apart-more i (m .puts) (m .out + b) r r′ (M .apart) (omega arith);
       })
     where
       or-false : (c : Bool) → (c || false) ≡ c
@@ -236,16 +285,11 @@ module _ {row : List ℕ} {n : ℕ} {r r′ : List ℕ} {k i puts out until : �
           by true = omega arith
           by false = omega arith
 
-  -- r₀ is the room as it was lent
-  pub marks-end : (r₀ : List ℕ) → r ≡ mark2 r₀ 0 0 0 → i ≡ n → (es : List Edit) → Orderly row n es → Marked n r₀ r′ es
-  marks-end r₀ b e es O =
+  -- the marks fit their words
+  pub marks-few : (m .puts ≤ 2048) × (m .out ≤ m .at) × (m .at ≤ n) × (n ≤ 2048)
+  marks-few = let e = M .enough in let f = M .all .few in (omega arith, M .few, M .short, M .small)
+
+  pub marks-end : m .at ≡ n → (es : List Edit) → Orderly row n es → Marked n r r′ es
+  marks-end e es O =
       let z : M .es ≡ es = one-row row (M .all .records) (O .records) in
-      let H : Holds es n r′ = rw (e, z) at (M .holds) in
-      let A : Apart n r r′ = rw e at (M .apart) in
-      record {
-        holds = H;
-        apart = record { between = λ x h k. A .between x h k ∙ first x (omega arith) (λ f. omega arith); after = λ x h. A .after x h ∙ first x (omega arith) (λ f. omega arith) };
-      }
-    where
-      first : (x : ℕ) → 0 < x → (x ≡ 2049 → ⊥) → getD r x 0 ≡ getD r₀ x 0
-      first x h k = rw b (getD-set-other (set r₀ 0 0) 2049 x 0 0 k ∙ getD-set-other r₀ 0 x 0 0 (λ f. omega arith))
+      record { holds = rw (e, z) at (M .holds); apart = rw e at (M .apart) }

@@ -9,14 +9,16 @@ ghost use Rattle.definitions.specs.Edits.{Edit, EditsInOrder};
 ghost use Rattle.theory.specs.Check.Says.{Says};
 ghost use Rattle.theory.specs.Edits.FromMarks.{readingList};
 ghost use Rattle.edits.specs.Codes.{Known, Knowns};
-ghost use Rattle.edits.specs.Fits.{placeAt, removedAt, putInAt, Next, Walked};
+ghost use Rattle.edits.specs.Fits.{Fit, Passes, broken, Passed};
+ghost use Rattle.edits.specs.Judged.{Right};
 ghost use Rattle.tree.specs.Shaped.{Holds};
 ghost use Rattle.list.specs.Pending.{Pending, Counted};
 ghost use Rattle.list.specs.Opening.{Elsewhere};
-ghost use Rattle.edits.specs.Marks.{putsAt, mark2, inside, Comes, Orderly, Marked};
+ghost use Rattle.edits.specs.Marks.{putsAt, mark2, inside, Marking, Clear, NextEdit, EditPassed};
 ghost use Rattle.edits.specs.Pushing.{Pushes};
 ghost use Rattle.edits.specs.Going.{Case, Going, list};
 ghost use Rattle.edits.specs.Stepping.{Room, CleanBy};
+ghost use Rattle.edits.specs.Begin.{Ready, AllPassed, ListMade};
 
 // ---- the inserted codes
 
@@ -49,69 +51,92 @@ pub fn codes_known(t: &[u8], codes: &[u32], n: usize) -> bool
 
 // ---- edits in order
 
-// The place of the edit whose record starts at word i.
-fn place_at(edits: &[u32], i: usize) -> usize
-    requires { ⌜ i + 3 ≤ length (now edits) ⌝ }
-    ensures { λ r. ⌜ (r ≡ placeAt (now (edits .entry)) i) × (r < 4294967296) ⌝ }
-{
-    tree::wide(edits[i])
+// A walk over the edits: where the last one ends, the codes that they use and the tokens that they remove. Once their rules are broken it
+// ends behind all old tokens, where no edit fits.
+pub struct Walk {
+    pub from: usize,
+    pub used: usize,
+    pub out: usize,
 }
 
-// The tokens it removes.
-fn removed_at(edits: &[u32], i: usize) -> usize
-    requires { ⌜ i + 3 ≤ length (now edits) ⌝ }
-    ensures { λ r. ⌜ (r ≡ removedAt (now (edits .entry)) i) × (r < 4294967296) ⌝ }
+// Whether an edit stands behind `from` in n old tokens and puts in at most `left` tokens.
+fn edit_fits(place: u32, removed: u32, put: u32, from: usize, n: usize, left: usize) -> bool
+    ensures { λ r. ⌜ Says r (Fit from n left (record { place = place; removed = removed; put = put })) ⌝ }
 {
-    tree::wide(edits[i + 1])
-}
-
-// The tokens it puts in.
-fn put_in_at(edits: &[u32], i: usize) -> usize
-    requires { ⌜ i + 3 ≤ length (now edits) ⌝ }
-    ensures { λ r. ⌜ (r ≡ putInAt (now (edits .entry)) i) × (r < 4294967296) ⌝ }
-{
-    tree::wide(edits[i + 2])
-}
-
-// Whether the record at word i is whole, stands behind `from` in n old tokens and puts in at most `left` tokens.
-fn edit_fits(edits: &[u32], i: usize, from: usize, n: usize, left: usize) -> bool
-    requires { ⌜ i < length (now edits) ⌝ }
-    ensures { λ r. ⌜ Says r (Next (now (edits .entry)) i from n left) ⌝ }
-{
-    if edits.len() - i < 3 {
+    if tree::wide(place) < from {
         return false;
     }
-    let place = place_at(edits, i);
-    if place < from {
+    if tree::wide(place) + tree::wide(removed) > n {
         return false;
     }
-    if place + removed_at(edits, i) > n {
-        return false;
-    }
-    put_in_at(edits, i) <= left
+    tree::wide(put) <= left
 }
 
-// How many of n old tokens the edits remove, which use `left` inserted codes up exactly; n + 1 where their rules are broken. The codes used
-// are refused as soon as they are more than are left, so no sum wraps however long the list is.
-fn removals_of(edits: &[u32], n: usize, left: usize) -> usize
+// The walk with one edit more, of n old tokens and `left` inserted codes. The codes used are refused as soon as they are more than are
+// left, so no sum wraps however long the list is.
+pub fn pass(w: Walk, place: u32, removed: u32, put: u32, n: usize, left: usize) -> Walk
+    requires { ⌜ (n ≤ 2048) × (w .used ≤ left) × (w .out ≤ w .from) ⌝ }
+    ensures { λ r. ⌜ Passes n left w (record { place = place; removed = removed; put = put }) r ⌝ }
+{
+    if edit_fits(place, removed, put, w.from, n, left - w.used) {
+        Walk {
+            from: tree::wide(place) + tree::wide(removed),
+            used: w.used + tree::wide(put),
+            out: w.out + tree::wide(removed),
+        }
+    } else {
+        broken(n)
+    }
+}
+
+// The walk once the rules are broken.
+fn broken(n: usize) -> Walk
     requires { ⌜ n ≤ 2048 ⌝ }
-    ensures { λ r. ⌜ Walked (now (edits .entry)) n left r ⌝ }
+    ensures { λ r. ⌜ r ≡ broken n ⌝ }
+{
+    Walk {
+        from: n + 1,
+        used: 0,
+        out: 0,
+    }
+}
+
+// Whether a walk over all edits of n old tokens found them in order, with their inserted codes.
+pub fn walked_right(t: &[u8], put: &[u32], n: usize, w: Walk) -> bool
+    requires { ⌜ Layout (now t) × (n ≤ 2048) × (w .out ≤ w .from) ⌝ }
+    ensures { λ r. ⌜ Says r (Right (now (t .entry)) (now (put .entry)) n w) ⌝ }
+{
+    if w.from > n {
+        return false;
+    }
+    if w.used != put.len() {
+        return false;
+    }
+    if put.len() > 2048 - (n - w.out) {
+        return false;
+    }
+    codes_known(t, put, put.len())
+}
+
+// Walks over the records of a row; a part of a record at its end breaks the rules.
+fn walk_words(edits: &[u32], n: usize, left: usize) -> Walk
+    requires { ⌜ n ≤ 2048 ⌝ }
+    ensures { λ r. ⌜ Passed (now (edits .entry)) n left (length (now (edits .entry))) r ⌝ }
 {
     let mut i = 0;
-    let mut from = 0;
-    let mut used = 0;
-    let mut out = 0;
+    let mut w = Walk {
+        from: 0,
+        used: 0,
+        out: 0,
+    };
     while i < edits.len() {
-        if edit_fits(edits, i, from, n, left - used) {
-            from = place_at(edits, i) + removed_at(edits, i);
-            used += put_in_at(edits, i);
-            out += removed_at(edits, i);
-            i += 3;
-        } else {
-            return n + 1;
+        if edits.len() - i < 3 {
+            return broken(n);
         }
+        w = pass(w, edits[i], edits[i + 1], edits[i + 2], n, left);
+        i += 3;
     }
-    if used == left { out } else { n + 1 }
+    w
 }
 
 // Whether the edits of n old tokens are in order, with their inserted codes (else refusal 6).
@@ -122,14 +147,8 @@ pub fn edits_right(t: &[u8], edits: &[u32], put: &[u32], n: usize) -> bool
         ((old : List Tok) → length old ≡ n → Says r ((es : List Edit) × EditsInOrder (now (t .entry)) old (now (edits .entry)) (now (put .entry)) es))
         ⌝ }
 {
-    let out = removals_of(edits, n, put.len());
-    if out > n {
-        return false;
-    }
-    if put.len() > 2048 - (n - out) {
-        return false;
-    }
-    codes_known(t, put, put.len())
+    let w = walk_words(edits, n, put.len());
+    walked_right(t, put, n, w)
 }
 
 // ---- the marks of the edits
@@ -148,17 +167,6 @@ fn mark(room: &mut [u32], i: usize, puts: usize, out: usize)
     room[GONE + i] = out as u32;
 }
 
-// Whether an edit at place i starts at word k.
-fn comes(edits: &[u32], k: usize, i: usize) -> bool
-    requires { ⌜ (k < length (now edits) → k + 3 ≤ length (now edits)) ⌝ }
-    ensures { λ r. ⌜ Says r (Comes (now (edits .entry)) k i) ⌝ }
-{
-    if k >= edits.len() {
-        return false;
-    }
-    place_at(edits, k) == i
-}
-
 // 1 where old token i stands before `until`, else 0.
 fn inside(i: usize, until: usize) -> usize
     ensures { λ r. ⌜ (r ≡ inside i until) × (r ≤ 1) ⌝ }
@@ -166,28 +174,50 @@ fn inside(i: usize, until: usize) -> usize
     if i < until { 1 } else { 0 }
 }
 
-// Writes how many tokens are put in before each place of n old tokens, and how many tokens before it are removed. One pass over the places,
-// with a cursor over the edits.
-fn mark_edits(edits: &[u32], room: &mut [u32], n: usize)
-    requires { ⌜ (4098 ≤ length (now room)) × (n ≤ 2048) × ((es : List Edit) × Orderly (now edits) n es) ⌝ }
-    ensures { λ r. ⌜ ((es : List Edit) → Orderly (now (edits .entry)) n es → Marked n (now (room .entry)) (now (room .exit)) es) ⌝ }
+// How far the marks are written: up to place `at`. The edits passed put in `puts` tokens and remove tokens up to `until`; `out` tokens before
+// `at` are removed.
+pub struct Marks {
+    pub at: usize,
+    pub puts: usize,
+    pub out: usize,
+    pub until: usize,
+}
+
+// Writes the marks of the places up to `to`, where no edit that is left comes before it.
+fn mark_to(room: &mut [u32], m: Marks, to: usize) -> Marks
+    requires { ⌜ (4098 ≤ length (now room)) × ((row r : List ℕ) × (n : ℕ) × (k : ℕ) × Marking row n r (now room) k m × Clear row k n (m .at) to) ⌝ }
+    ensures { λ w.
+        ⌜ ((row r : List ℕ) (n k : ℕ) → Marking row n r (now (room .entry)) k m → Clear row k n (m .at) to → Marking row n r (now (room .exit)) k w) × (w .at ≡ to) ⌝ }
 {
-    let mut k = 0;
-    let mut i = 0;
-    let mut puts = 0;
-    let mut out = 0;
-    let mut until = 0;
-    mark(room, 0, 0, 0);
-    while i < n {
-        if comes(edits, k, i) {
-            puts += put_in_at(edits, k);
-            until = i + removed_at(edits, k);
-            k += 3;
-        } else {
-            out += inside(i, until);
-            i += 1;
-            mark(room, i, puts, out);
-        }
+    let puts = m.puts;
+    let until = m.until;
+    let mut i = m.at;
+    let mut out = m.out;
+    while i < to {
+        out += inside(i, until);
+        i += 1;
+        mark(room, i, puts, out);
+    }
+    Marks {
+        at: i,
+        puts: puts,
+        out: out,
+        until: until,
+    }
+}
+
+// Passes one edit: writes the marks of the places up to its own.
+pub fn mark_edit(room: &mut [u32], m: Marks, place: u32, removed: u32, put: u32) -> Marks
+    requires { ⌜ (4098 ≤ length (now room)) × NextEdit (now room) m (record { place = place; removed = removed; put = put }) ⌝ }
+    ensures { λ w. ⌜ EditPassed (now (room .entry)) m (record { place = place; removed = removed; put = put }) (now (room .exit)) w ⌝ }
+{
+    let at = tree::wide(place);
+    let w = mark_to(room, m, at);
+    Marks {
+        at: at,
+        puts: w.puts + tree::wide(put),
+        out: w.out,
+        until: at + tree::wide(removed),
     }
 }
 
@@ -263,6 +293,35 @@ fn list_pieces(old: &[u32], room: &mut [u32], n: usize, m: usize) -> usize
     k
 }
 
+// Writes the counts of the old row's tokens in the working room, and the marks of place 0.
+pub fn begin_marks(old: &[u32], room: &mut [u32]) -> Marks
+    requires { ⌜ (16384 ≤ length (now room)) × Holds (now old) ⌝ }
+    ensures { λ m. ⌜ ((C : Case (now (old .entry))) → Ready C (now (room .entry)) (now (room .exit)) 0 m) ⌝ }
+{
+    let n = tree::count_at(old);
+    tree::count_tokens(old, room, list::TOKENS, n);
+    mark(room, 0, 0, 0);
+    Marks {
+        at: 0,
+        puts: 0,
+        out: 0,
+        until: 0,
+    }
+}
+
+// Makes the reading list once all edits are passed.
+pub fn list_marked(old: &[u32], put: &[u32], room: &mut [u32], m: Marks) -> usize
+    requires { ⌜ (16384 ≤ length (now room)) × AllPassed (now old) (now put) (now room) m ⌝ }
+    ensures { λ k. ⌜ ListMade (now (old .entry)) (now (put .entry)) (now (room .entry)) m (now (room .exit)) k ⌝ }
+{
+    let n = tree::count_at(old);
+    let all = tree::wide(room[list::TOKENS + n]);
+    mark_to(room, m, all);
+    let last = tree::wide(room[PUTS + all]);
+    let k = push_codes(room, 0, last, put.len());
+    list_pieces(old, room, n, k)
+}
+
 // Makes the reading list of an update in the working room: the largest clean pieces of the old row and the inserted codes, the next one
 // last; how many words it has. The counts of the old row's tokens stand behind it.
 pub fn make_list(old: &[u32], edits: &[u32], put: &[u32], room: &mut [u32]) -> usize
@@ -280,11 +339,11 @@ pub fn make_list(old: &[u32], edits: &[u32], put: &[u32], room: &mut [u32]) -> u
         ⌝ }
     ensures { λ m. ⌜ (m ≤ 2048) × Counted (now (old .entry)) (now (room .exit)) × (drop 16384 (now (room .exit)) ≡ drop 16384 (now (room .entry))) ⌝ }
 {
-    let n = tree::count_at(old);
-    tree::count_tokens(old, room, list::TOKENS, n);
-    let all = tree::wide(room[list::TOKENS + n]);
-    mark_edits(edits, room, all);
-    let last = tree::wide(room[PUTS + all]);
-    let m = push_codes(room, 0, last, put.len());
-    list_pieces(old, room, n, m)
+    let mut m = begin_marks(old, room);
+    let mut k = 0;
+    while k < edits.len() {
+        m = mark_edit(room, m, edits[k], edits[k + 1], edits[k + 2]);
+        k += 3;
+    }
+    list_marked(old, put, room, m)
 }

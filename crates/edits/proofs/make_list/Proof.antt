@@ -1,23 +1,28 @@
--- `edits::make_list` meets its contract: counts, marks, the codes put in at the end, and the pass back. Assumes nothing.
-use mathlib.Core.Path.{_≡_, sym, _∙_, subst}
+-- `edits::make_list` meets its contract. The loop's invariant is `Ready`: the counts and the marks of the edits passed stand. The measure is the
+-- words left. Assumes nothing.
+use mathlib.Core.Path.{_≡_, refl, _∙_}
 use mathlib.Core.List.{List}
-use Prim.Native.Nat.{ℕ, _+_, _≤_}
+use Prim.Native.Nat.{ℕ, _+_, _-_, _≤_, _<_}
 use native.Mathlib.Omega.{arith}
-use lib.ListN.{length, getD}
+use lib.ListN.{length}
 use borrow.Author.Needs.{needs}
 use Rattle.definitions.specs.Sheet.{T}
 use Rattle.definitions.specs.Tree.{yield, NRow, erase, InOrder}
 use Rattle.definitions.specs.Edits.{Edit, EditsInOrder}
-use Rattle.tree.specs.Tokens.{Counts}
-use Rattle.list.specs.Pending.{tokensAt}
-use Rattle.edits.specs.Marks.{Marked}
-use Rattle.edits.specs.Going.{Case, few-tokens, Going}
-use Rattle.edits.specs.Begin.{case-holds, all-many, all-orderly, begin-room, begin, kept, list-few}
+use Rattle.edits.specs.Going.{Case, many}
+use Rattle.edits.specs.Begin.{case-holds, Ready, Listed, ready-record, ready-on, ready-end}
 use Rattle.edits.proofs.make_list.Statement.{statement}
 use Rattle.edits.proofs.make_list.Tie as tie
 
+abbrev Inv-loop : tie.InvT-loop
+Inv-loop old edits put room₀ m₀ k₀ room m k =
+    (k ≤ length edits) × (length room ≡ length room₀) × ((C : Case old) (r : List ℕ) → C .edits ≡ edits → Ready C r room₀ 0 m₀ → Ready C r room k m)
+
+abbrev μ-loop : tie.MeasureT-loop
+μ-loop old edits put room₀ m₀ k₀ room m k = length edits - k
+
 -- an update of what is lent; the one that the caller has at hand
-module _ (s : tie.Start) where
+module _ (s : tie.Start Inv-loop μ-loop) where
   abbrev of : (t : List ℕ) (tree : NRow) (es : List Edit) → T t ≤ 256 → InOrder t (s .args .old .now) tree
       → EditsInOrder t (yield (erase tree)) (s .args .edits .now) (s .args .put .now) es → Case (s .args .old .now)
   of t tree es f i o = record { t = t; edits = s .args .edits .now; put = s .args .put .now; tree = tree; es = es; few = f; stands = i; order = o }
@@ -25,165 +30,146 @@ module _ (s : tie.Start) where
   abbrev case : Case (s .args .old .now)
   case = let p = s .pre .1 in of (p .0) (p .1) (p .2) (p .3) (p .4) (p .5)
 
--- once the counts are written
-counts : (d : tie.After-count-tokens) → let s = d .before .before .before .before .before .before .before in
-    Counts (s .args .old .now) (s .args .room .now) (d .count-tokens .last .1 .0) tokensAt (getD (s .args .old .now) 0 0)
-counts d = rw (d .before .before .count-at .ensures .0) at (d .count-tokens .ensures)
+-- at the loop
+module _ (l : tie.At-loop Inv-loop μ-loop) where
+  abbrev start : tie.Start Inv-loop μ-loop
+  start = l .before .before .before .before .before .before .before .before .before
 
-all-is : (w : tie.After-wide) → let d = w .before .before .before .before in let s = d .before .before .before .before .before .before .before in
-    w .wide .result ≡ getD (d .count-tokens .last .1 .0) (tokensAt + getD (s .args .old .now) 0 0) 0
-all-is w = let d = w .before .before .before .before in rw (d .before .before .count-at .ensures .0) at (w .wide .ensures .0)
+  now : (C : Case (start .args .old .now)) → C .edits ≡ start .args .edits .now → Ready C (start .args .room .now) (l .loop .room) (l .loop .k) (l .loop .m)
+  now C e = l .loop .inv .2 C (start .args .room .now) e (l .before .before .before .begin-marks .ensures C)
 
-all-few : (w : tie.After-wide) → w .wide .result ≤ 2048
-all-few w =
-    let d = w .before .before .before .before in
-    let C = case (d .before .before .before .before .before .before .before) in
-    omega (arith, all-many (counts d) (all-is w) C, few-tokens C)
+  -- a record that starts is whole
+  whole : l .loop .k < length (start .args .edits .now) → l .loop .k + 3 ≤ length (start .args .edits .now)
+  whole h = ready-record (now (case start) refl) h .whole
 
--- once the marks are
-module _ (e : tie.After-mark-edits) where
-  abbrev was : tie.After-count-tokens
-  was = e .before .before .before .before .before .before
+-- behind it
+end : (a : tie.After-loop Inv-loop μ-loop) → let l = a .before in let s = start l in (C : Case (s .args .old .now)) → C .edits ≡ s .args .edits .now
+    → Ready C (s .args .room .now) (l .loop .room) (length (C .edits)) (l .loop .m)
+end a C e =
+    let l = a .before in
+    let h = a .loop-test .left in
+    let k = l .loop .inv .0 in
+    ready-end (now l C e) (rw e (omega arith))
 
-  abbrev at : tie.Start
-  at = was .before .before .before .before .before .before .before
+begin-marks-requires : tie.Need-begin-marks-requires Inv-loop μ-loop
+begin-marks-requires c κs =
+    let s = c .before .before .before .before .before in
+    (s .pre .0, case-holds (case s))
 
-  marked : (t : List ℕ) (tree : NRow) (es : List Edit) (f : T t ≤ 256) (i : InOrder t (at .args .old .now) tree)
-      (o : EditsInOrder t (yield (erase tree)) (at .args .edits .now) (at .args .put .now) es)
-      → Marked (e .before .before .wide .result) (was .count-tokens .last .1 .0) (e .mark-edits .last .1 .0) es
-  marked t tree es f i o = e .mark-edits .ensures es (all-orderly (counts was) (all-is (e .before .before)) (of at t tree es f i o))
+loop-holds : tie.Need-loop-holds Inv-loop μ-loop
+loop-holds c = (omega arith, refl, λ C r e Y. Y)
 
-  few-records : getD (at .args .old .now) 0 0 ≤ 2048
-  few-records = case-holds (case at) .0 .1
+mul-mark-edit : tie.Need-mul-mark-edit Inv-loop μ-loop
+mul-mark-edit c = search needs
 
-  long : 16384 ≤ length (e .mark-edits .last .1 .0)
-  long = let l = at .pre .0 in let k = was .count-tokens .kept .1 .0 in let m = e .mark-edits .kept .1 .0 in omega arith
+shared-slice-read-mark-edit : tie.Need-shared-slice-read-mark-edit Inv-loop μ-loop
+shared-slice-read-mark-edit c = search needs
 
--- once the last codes are on the list
-begun : (p : tie.After-push-codes) → let e = p .before .before .before .before .before .before in let s = at e in
-    (t : List ℕ) (tree : NRow) (es : List Edit) (f : T t ≤ 256) (i : InOrder t (s .args .old .now) tree)
-    (o : EditsInOrder t (yield (erase tree)) (s .args .edits .now) (s .args .put .now) es)
-    → Going (of s t tree es f i o) (p .push-codes .last .0) (was e .before .before .count-at .result) (p .push-codes .result)
-begun p t tree es f i o =
-    let v = p .before .before in
-    let e = v .before .before .before .before in
-    let w = e .before .before in
-    let C = of (at e) t tree es f i o in
-    subst (λ (n : ℕ). Going C (p .push-codes .last .0) n (p .push-codes .result)) (sym (was e .before .before .count-at .ensures .0))
-    (begin (counts (was e)) (all-is w) (few-records e) (all-few w) C (marked e t tree es f i o) (rw (v .wide2 .ensures .0) at (p .push-codes .ensures)))
+add-mark-edit : tie.Need-add-mark-edit Inv-loop μ-loop
+add-mark-edit c = search needs
 
-count-at-requires : tie.Need-count-at-requires
-count-at-requires c κs =
-    let s = c .before .before .before .before in
-    let h = case-holds (case s) .1 in
+mul-mark-edit-2 : tie.Need-mul-mark-edit-2 Inv-loop μ-loop
+mul-mark-edit-2 c = search needs
+
+shared-slice-read-mark-edit-2 : tie.Need-shared-slice-read-mark-edit-2 Inv-loop μ-loop
+shared-slice-read-mark-edit-2 c =
+    let a = c .before .before in
+    let h = whole (a .before .before) (a .before .loop-test .taken) in
     omega arith
 
-count-tokens-requires : tie.Need-count-tokens-requires
-count-tokens-requires c κs =
-    let a = c .before in
-    let s = a .before .before .before .before .before in
-    let h = case-holds (case s) in
-    let h0 = h .0 in
-    let h1 = h .1 in
-    let z = a .count-at .ensures .0 in
-    let l = s .pre .0 in
-    (omega arith, (omega arith, omega arith))
+add-mark-edit-2 : tie.Need-add-mark-edit-2 Inv-loop μ-loop
+add-mark-edit-2 c = search needs
 
-add-wide : tie.Need-add-wide
-add-wide c = search needs
+mul-mark-edit-3 : tie.Need-mul-mark-edit-3 Inv-loop μ-loop
+mul-mark-edit-3 c = search needs
 
-mul-wide : tie.Need-mul-wide
-mul-wide c = search needs
-
-slice-read-wide : tie.Need-slice-read-wide
-slice-read-wide c =
-    let d = c .before .before .before in
-    let s = d .before .before .before .before .before .before .before in
-    let h = case-holds (case s) .0 in
-    let z = d .before .before .count-at .ensures .0 in
-    let l = s .pre .0 in
-    let k = d .count-tokens .kept .1 .0 in
+shared-slice-read-mark-edit-3 : tie.Need-shared-slice-read-mark-edit-3 Inv-loop μ-loop
+shared-slice-read-mark-edit-3 c =
+    let a = c .before .before .before in
+    let h = whole (a .before .before) (a .before .loop-test .taken) in
     omega arith
 
-wide-requires : tie.Need-wide-requires
-wide-requires c κs = search needs
+mark-edit-requires : tie.Need-mark-edit-requires Inv-loop μ-loop
+mark-edit-requires c κs =
+    let a = c .before .before .before in
+    let l = a .before .before in
+    let s = start l in
+    let h = s .pre .0 in
+    let Y = now l (case s) refl in
+    let e = l .loop .inv .1 in
+    let k = l .before .before .before .begin-marks .kept .1 .0 in
+    (omega arith, (s .args .edits .now, Y .base, many (case s), l .loop .k, Y .marking, ready-record Y (a .before .loop-test .taken)))
 
-mark-edits-requires : tie.Need-mark-edits-requires
-mark-edits-requires c κs =
-    let w = c .before in
-    let d = w .before .before .before .before in
-    let s = d .before .before .before .before .before .before .before in
-    let l = s .pre .0 in
-    let k = d .count-tokens .kept .1 .0 in
-    (omega arith, all-few w, (case s .es, all-orderly (counts d) (all-is w) (case s)))
-
-add-wide-2 : tie.Need-add-wide-2
-add-wide-2 c = search needs
-
-mul-wide-2 : tie.Need-mul-wide-2
-mul-wide-2 c = search needs
-
-slice-read-wide-2 : tie.Need-slice-read-wide-2
-slice-read-wide-2 c =
-    let e = c .before .before .before in
-    let l = long e in
-    let f = all-few (e .before .before) in
+add-k : tie.Need-add-k Inv-loop μ-loop
+add-k c =
+    let a = c .before .before .before .before .before .before in
+    let h = whole (a .before .before) (a .before .loop-test .taken) in
     omega arith
 
-wide-requires-2 : tie.Need-wide-requires-2
-wide-requires-2 c κs = search needs
+loop-less : tie.Need-loop-less Inv-loop μ-loop
+loop-less c =
+    let a = c .before .before .before .before .before .before in
+    let h = whole (a .before .before) (a .before .loop-test .taken) in
+    omega arith
 
-push-codes-requires : tie.Need-push-codes-requires
-push-codes-requires c κs =
-    let v = c .before in
-    let e = v .before .before .before .before in
-    let w = e .before .before in
-    let p = at e .pre .1 in
-    (long e, rw (v .wide2 .ensures .0) (begin-room (counts (was e)) (all-is w) (few-records e) (all-few w) (case (at e)) (marked e (p .0) (p .1) (p .2) (p .3) (p .4) (p .5))))
-
-list-pieces-requires : tie.Need-list-pieces-requires
-list-pieces-requires c κs =
-    let p = c .before .before .before in
-    let e = p .before .before .before .before .before .before in
-    let l = long e in
-    let n = p .push-codes .kept .0 in
-    let g = at e .pre .1 in
-    (omega arith, case-holds (case (at e)), (case (at e), begun p (g .0) (g .1) (g .2) (g .3) (g .4) (g .5)))
-
-same-length : tie.Need-same-length
-same-length c = search needs
-
-returns : tie.Need-returns
-returns c =
-    let q = c .before .before in
-    let p = q .before .before .before .before in
-    let e = p .before .before .before .before .before .before in
-    let w = e .before .before in
-    let s = at e in
-    let g = s .pre .1 in
-    let C = case s in
-    let d = q .list-pieces .kept .1 .0 ∙ p .push-codes .kept .0 ∙ e .mark-edits .kept .1 .0 ∙ was e .count-tokens .kept .1 .0 in
-    let k = kept (counts (was e)) (all-is w) (few-records e) (all-few w) C (marked e (g .0) (g .1) (g .2) (g .3) (g .4) (g .5)) d (p .push-codes .ensures .elsewhere) (q .list-pieces .ensures .1) in (
-      λ t tree es f i o. q .list-pieces .ensures .0 (of s t tree es f i o) (begun p t tree es f i o),
-      (list-few C (q .list-pieces .ensures .0 C (begun p (g .0) (g .1) (g .2) (g .3) (g .4) (g .5))), k .0, k .1),
+loop-again : tie.Need-loop-again Inv-loop μ-loop
+loop-again c =
+    let m = c .before .before in
+    let a = m .before .before .before .before in
+    let l = a .before .before in
+    let h = a .before .loop-test .taken in (
+      whole l h,
+      m .mark-edit .kept .0 ∙ l .loop .inv .1,
+      λ C r e Y.
+          let Y′ = l .loop .inv .2 C r e Y in
+          ready-on Y′ (m .mark-edit .ensures (C .edits) (Y′ .base) (many C) (l .loop .k) (Y′ .marking) (rw e (rw e at (ready-record Y′ (rw e h))))),
     )
+
+list-marked-requires : tie.Need-list-marked-requires Inv-loop μ-loop
+list-marked-requires c κs =
+    let l = c .before .before in
+    let s = start l in
+    let h = s .pre .0 in
+    let e = l .loop .inv .1 in
+    let k = l .before .before .before .begin-marks .kept .1 .0 in
+    (omega arith, (case s, s .args .room .now, refl, end (c .before) (case s) refl))
+
+same-length : tie.Need-same-length Inv-loop μ-loop
+same-length c =
+    let m = c .before .before in
+    let l = m .before .before .before in
+    m .list-marked .kept .1 .1 .0 ∙ l .loop .inv .1 ∙ l .before .before .before .begin-marks .kept .1 .0
+
+returns : tie.Need-returns Inv-loop μ-loop
+returns c =
+    let m = c .before .before in
+    let a = m .before .before in
+    let s = start (a .before) in
+    let all : (C : Case (s .args .old .now)) → C .edits ≡ s .args .edits .now → C .put ≡ s .args .put .now → Listed C (s .args .room .now) (m .list-marked .last .1 .1 .0) (m .list-marked .result) =
+    λ C e p. m .list-marked .ensures C (s .args .room .now) p (end a C e) in
+    let L = all (case s) refl refl in
+    (λ t tree es f i o. all (of s t tree es f i o) refl refl .pending, (L .few, L .counted, L .rest))
 
 pub make-list-spec : {M : Type 1} → statement M
 make-list-spec =
     tie.close
     (tie.spec
-    count-at-requires
-    count-tokens-requires
-    add-wide
-    mul-wide
-    slice-read-wide
-    wide-requires
-    mark-edits-requires
-    add-wide-2
-    mul-wide-2
-    slice-read-wide-2
-    wide-requires-2
-    push-codes-requires
-    list-pieces-requires
+    Inv-loop
+    μ-loop
+    begin-marks-requires
+    loop-holds
+    mul-mark-edit
+    shared-slice-read-mark-edit
+    add-mark-edit
+    mul-mark-edit-2
+    shared-slice-read-mark-edit-2
+    add-mark-edit-2
+    mul-mark-edit-3
+    shared-slice-read-mark-edit-3
+    mark-edit-requires
+    add-k
+    loop-less
+    loop-again
+    list-marked-requires
     same-length
     returns)
