@@ -162,6 +162,12 @@ expect("words beyond the tree", [(update_case(house, old + more), same) for more
 expect("numbers in any order", [(update_case(house, anew), lines(0, 0, standing(2), anew))])
 full = pair + pair + [m] * 679
 expect("an old tree of 2,048 nodes", [taken(standing(681), full, range(1, 2049), 2049, fresh(full))])
+dice = random.Random(seed)
+mixed = dice.sample(range(1, top), 2048)
+expect("its numbers in any order", [taken(standing(681), full, mixed, top, row_of(nodes(full), mixed, top))])
+pairs = [(0, 2047), (2047, 0), (0, 1), (1023, 1024), (512, 1536)] + [dice.sample(range(2048), 2) for _ in range(40)]
+twice = [mixed[:i] + [mixed[j]] + mixed[i + 1 :] for i, j in pairs]
+expect("two of its numbers equal", [refused(5, row_of(nodes(full), numbers, top)) for numbers in twice])
 
 # ---- edits: their rules
 three = fresh([m, m, m])
