@@ -104,6 +104,12 @@ compare("edits of a long text", [
     edited(wide, [0, 0, 0] * 3000 + [720, 0, 1], [m]),
 ])
 
+# ---- malformed input: a limit passed, or an input that breaks off
+whole = list_case(update_case(house, fresh([m]), [1, 0, 1], [m]))
+odd = [whole[:-1], whole[:-9], whole[:200], whole[:1], whole + b"L", list_case(update_case(house, [0] * 8201))]
+said = ["list 3/4 +1\ninput\n" if given == whole + b"L" else "input\n" for given in odd]
+tally.group("malformed input", said, [run(judge, given) for given in odd])
+
 if build_second():
     tally.group("stored vectors of refusal 1", run([second, "judge"], short).splitlines(), run(judge, short).splitlines())
     tally.group("the second program's lists", wanted, run([second, "judge"], b"".join(cases)).splitlines(keepends=True))
