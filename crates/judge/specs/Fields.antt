@@ -41,13 +41,13 @@ module _ {e : Edited} {a b c d : ℕ} (table old edits codes : ℕ) (is : e ≡ 
   pub of-codes : d ≤ codes
   of-codes = parts .3
 
-abbrev pub Within2 : ℕ → ℕ → Lent → Type 0
-Within2 tree room (Lent.Words a b) = (a ≤ tree) × (b ≤ room)
-Within2 tree room Lent.Broken = Unit {0}
+abbrev pub Lends : ℕ → ℕ → Lent → Type 0
+Lends tree room (Lent.Words a b) = (a ≤ tree) × (b ≤ room)
+Lends tree room Lent.Broken = Unit {0}
 
-module _ {l : Lent} {a b : ℕ} (tree room : ℕ) (is : l ≡ Lent.Words a b) (w : Within2 tree room l) where
+module _ {l : Lent} {a b : ℕ} (tree room : ℕ) (is : l ≡ Lent.Words a b) (w : Lends tree room l) where
   words : (a ≤ tree) × (b ≤ room)
-  words = subst (Within2 tree room) is w
+  words = subst (Lends tree room) is w
 
   pub of-tree : a ≤ tree
   of-tree = words .0

@@ -1,9 +1,8 @@
 // The input's fields: numbers of four bytes, high first, and rows behind their counts. A row that is lent to be read into is as long
 // as its field may be.
-ghost use mathlib.Core.Path.{_≡_};
-ghost use Prim.Native.Nat.{_+_, _*_, _≤_};
+ghost use Prim.Native.Nat.{_+_, _≤_};
 ghost use lib.ListN.{length};
-ghost use Rattle.judge.specs.Fields.{Within, Rows, Within2};
+ghost use Rattle.judge.specs.Fields.{Within, Rows, Lends};
 
 // A number of the input, or that the input broke off or went past a limit.
 pub enum Got {
@@ -221,7 +220,7 @@ pub fn read_edited(
 
 // The words lent of a tree and of a room that have so many.
 pub fn read_lent(tree: usize, room: usize) -> Lent
-    ensures { λ r. ⌜ Within2 tree room r ⌝ }
+    ensures { λ r. ⌜ Lends tree room r ⌝ }
 {
     let t = read_count(tree);
     let Got::Number(a) = t else {

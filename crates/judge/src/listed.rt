@@ -1,7 +1,6 @@
 // The reading list that the library makes of an update, on one line: `list`, and for each entry in reading order a space and, of a piece, its
 // root's record in the old row, a stroke and its nodes; of an inserted code, a plus and the code. Where the call would be refused before it
 // reads, the refusal's number is the line.
-ghost use mathlib.Core.Path.{_≡_};
 ghost use Prim.Native.Nat.{_≤_};
 ghost use lib.ListN.{length};
 ghost use Rattle.definitions.specs.States.{Accepted};

@@ -13,7 +13,6 @@ mod input;
 mod listed;
 mod told;
 
-ghost use mathlib.Core.Path.{_≡_};
 ghost use Prim.Native.Nat.{_≤_};
 ghost use lib.ListN.{length};
 use answers::Answer;
