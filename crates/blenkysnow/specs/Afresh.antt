@@ -26,16 +26,17 @@ short tree room x n = by (decLe 6146 (length tree)) (decLe 16384 (length room))
     by (yes h) (no k) = refl
     by (no h) e = refl
 
+-- a judgement that is not so, or is so
+pub given-no : {A : Type 0} {B : Type 0} (d : Dec A) (g : A → B) (y : B) → (A → ⊥) → given d g y ≡ y
+given-no (yes a) g y n = absurd (n a)
+given-no (no m) g y n = refl
+
+given-on : {A : Type 0} {B : Type 0} (d : Dec A) (g : A → B) (y x : B) → A → ((a : A) → g a ≡ x) → given d g y ≡ x
+given-on (yes a) g y x w e = e a
+given-on (no m) g y x w e = absurd (m w)
+
 -- 2, 3 and 4, whatever made the judgements
 module _ (t : List ℕ) (j : Judged t) (tree room : List ℕ) (f : Accepted t → Told) where
-  given-no : {A : Type 0} {B : Type 0} (d : Dec A) (g : A → B) (y : B) → (A → ⊥) → given d g y ≡ y
-  given-no (yes a) g y n = absurd (n a)
-  given-no (no m) g y n = refl
-
-  given-on : {A : Type 0} {B : Type 0} (d : Dec A) (g : A → B) (y x : B) → A → ((a : A) → g a ≡ x) → given d g y ≡ x
-  given-on (yes a) g y x w e = e a
-  given-on (no m) g y x w e = absurd (m w)
-
   pub told-2 : (Layout t → ⊥) → tabled t j tree room f ≡ refuse tree room 2 0
   told-2 n = given-no (j .layout) _ _ n
 

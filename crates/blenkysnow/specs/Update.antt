@@ -11,7 +11,7 @@ use Rattle.definitions.specs.Tree.{Row, size, yield, NRow, erase, written, InOr
 use Rattle.definitions.specs.Reading.{End, taken, refused}
 use Rattle.definitions.specs.Moves.{Done}
 use Rattle.definitions.specs.Edits.{Edit, EditsInOrder}
-use Rattle.definitions.specs.Answers.{Told, refusal, accepted, if, cleared, refuse, accept, given, treeOf, ending, finished}
+use Rattle.definitions.specs.Answers.{Told, refusal, accepted, if, cleared, refuse, accept, treeOf, ending, finished}
 use Rattle.theory.specs.Machine.Rows.{toks-length}
 use Rattle.theory.specs.Check.Judge.{judged}
 use Rattle.theory.specs.Tree.InOrderD.{tree-in, one-tree}
@@ -23,11 +23,7 @@ use Rattle.tree.specs.Rows.{holds-stands}
 use Rattle.tree.specs.Tokens.{tokens}
 use Rattle.list.specs.Pieces.{all-old, tokens-forest}
 use Rattle.updating.specs.Finish.{Judged, numbers, done}
-use Rattle.blenkysnow.specs.Afresh.{small, short, told-2, told-3, told-4}
-
-given-none : {A : Type 0} {B : Type 0} (d : Dec A) (f : A → B) (y : B) → (A → ⊥) → given d f y ≡ y
-given-none (yes a) f y n = absurd (n a)
-given-none (no m) f y n = refl
+use Rattle.blenkysnow.specs.Afresh.{small, short, given-no, told-2, told-3, told-4}
 
 -- the old tree's tokens are those of its records
 pub old-tokens : (t old : List ℕ) (r : NRow) → T t ≤ 256 → InOrder t old r → tokens old (getD old 0 0) ≡ length (yield (erase r))
@@ -69,7 +65,7 @@ module _ (t old edits codes tree room : List ℕ) where
         by : (a : Accepted t) (d : Dec ((x : NRow) × InOrder t old x)) → readList t old edits codes tree room d (λ x. edits-in t (yield (erase x)) edits codes) ≡ refuse tree room 6 0
         by a (yes x) =
             let e = one-tree t old (a .layout) (x .0) r (x .1) O in
-            given-none (edits-in t (yield (erase (x .0))) edits codes) _ _ (λ g. n (g .0, subst (λ (y : NRow). EditsInOrder t (yield (erase y)) edits codes (g .0)) e (g .1)))
+            given-no (edits-in t (yield (erase (x .0))) edits codes) _ _ (λ g. n (g .0, subst (λ (y : NRow). EditsInOrder t (yield (erase y)) edits codes (g .0)) e (g .1)))
         by a (no m) = absurd (m (r, O))
 
     -- the list is read

@@ -7,20 +7,15 @@ use lib.ListN.{length, getD}
 use Rattle.definitions.specs.Sheet.{T}
 use Rattle.definitions.specs.Tree.{Tok, mk, Row, ∅, tok, nod, size, toks, NRow, ε, ntok, nnod, erase, words}
 use Rattle.definitions.specs.Reading.{Tree, leaf, node, cons, Stack}
-use Rattle.definitions.specs.Edits.{Codes}
 use Rattle.machine.specs.Room.{Holds}
 use Rattle.machine.specs.Steps.{Stands, token, end}
 use Rattle.tree.specs.Shaped as Rows
 use Rattle.tree.specs.Rows.{length-words}
+use Rattle.edits.specs.Codes.{from-codes}
 use Rattle.list.specs.Pieces.{Piece, root-real}
 use Rattle.list.specs.Pending.{listAt, Pending, Next, old-piece, new-code, next, nothing}
 use Rattle.list.specs.Runs.{Fits, runOf, piece-fits, run-piece, code-fits, run-code}
 use Rattle.updating.specs.Turns.{Listed, Facing}
-
-code-real : (n : ℕ) (codes : List ℕ) (k : ℕ) → Codes n codes → k < length codes → 0 < getD codes k 0
-code-real n [] k c h = absurd (omega arith)
-code-real n (a ∷ codes) zero c h = c .0
-code-real n (a ∷ codes) (suc k) c h = code-real n codes k (c .2) (omega arith)
 
 -- the words of a token
 token-words : (f : NRow) (k i : ℕ) → erase f ≡ tok (mk k i) ∅ → (getD (words f) 0 0 ≡ k) × (getD (words f) 1 0 ≡ i)
@@ -47,7 +42,7 @@ faces {t} {old} {put} {r} {n} {m} {σ} {f} H h more L =
         let w = run-code old put k l in
         record {
           fits = code-fits old put k l;
-          code = λ c. rw w (token (code-real (T t) put k (L .codes) l));
+          code = λ c. rw w (token (from-codes (T t) put (L .codes) k l .above));
           token = λ c. absurd (omega (arith, ap length w));
           piece = λ a b. absurd (a (ap length w));
         }
