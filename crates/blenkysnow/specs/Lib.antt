@@ -2,3 +2,4 @@
 pub mod Text
 pub mod Afresh
 pub mod Update
+pub mod Stages

@@ -1,32 +1,36 @@
 // The public calls over lent rows. Nothing is asked of what is lent: each call judges it, in document 01's order of refusals.
 ghost use mathlib.Core.Path.{_≡_};
-ghost use Prim.Native.Nat.{_+_, _*_, _≤_};
+ghost use Prim.Native.Nat.{_+_, _*_, _≤_, _<_};
 ghost use mathlib.Core.Bool.{cond};
 ghost use lib.Dec.{ltb};
-ghost use lib.ListN.{length};
+ghost use lib.ListN.{length, drop};
 ghost use Rattle.definitions.specs.Sheet.{T, Layout};
 ghost use Rattle.definitions.specs.States.{Accepted};
 ghost use Rattle.definitions.specs.Edits.{Codes};
+ghost use Rattle.definitions.specs.Answers as Answers;
 ghost use Rattle.definitions.specs.Answers.{cleared, TextInOrder};
 ghost use Rattle.theory.specs.Check.Says.{Says};
 ghost use Rattle.theory.specs.Edits.EditsD.{text-in};
 ghost use Rattle.theory.specs.Answers.{readText, afresh, update};
-ghost use Rattle.theory.specs.Demands.Calls.{Enough, Afreshed, UpdatedAll};
+ghost use Rattle.theory.specs.Demands.Calls.{Afreshed, UpdatedAll};
 ghost use Rattle.tree.specs.Tokens.{tokens};
+ghost use Rattle.answers.specs.Values.{valueOf};
 ghost use Rattle.reading.specs.Fresh.{told};
+ghost use Rattle.edit_lists.specs.Words.{wordsOf};
+ghost use Rattle.blenkysnow.specs.Stages.{Long, OldTokens, Begun, Handed, Ended};
 use answers::Answer;
 use table::Check;
 
 // ---- what is lent
 
-// Whether the tree to write and the room are long enough (else refusal 1).
-fn enough(tree: &[u32], room: &[u32]) -> bool
-    ensures { λ r. ⌜ Says r (Enough (now (tree .entry)) (now (room .entry))) ⌝ }
+// Whether the tree to write and the room, of so many words, are long enough (else refusal 1).
+fn enough(tree: usize, room: usize) -> bool
+    ensures { λ r. ⌜ Says r (Long tree room) ⌝ }
 {
-    if tree.len() < 6146 {
+    if tree < 6146 {
         return false;
     }
-    room.len() >= 16384
+    room >= 16384
 }
 
 // A refusal, the room cleared.
@@ -91,7 +95,7 @@ pub fn read_afresh(
         Afreshed (now (table .entry)) (now (codes .entry)) first (now (tree .entry)) (now (room .entry)) (told r (now (tree .exit)) (now (room .exit)))
         ⌝ }
 {
-    if !enough(tree, room) {
+    if !enough(tree.len(), room.len()) {
         return Answer::Small;
     }
     let found = table::check_table(table);
@@ -126,35 +130,81 @@ fn tokens_in(old: &[u32], n: usize) -> usize
     k
 }
 
-// Once the table is taken and room enough is lent: 5, 6, or the update.
-fn update_taken<'a>(
+// How many tokens the old tree has, if it is in order, or else 2,048 and the number of the refusal: 5.
+fn old_tokens(t: &[u8], old: &[u32], room: &mut [u32]) -> usize
+    requires { ⌜ Accepted (now t) × (16384 ≤ length (now room)) ⌝ }
+    ensures { λ n. ⌜ OldTokens (now (t .entry)) (now (old .entry)) (now (room .entry)) (now (room .exit)) n ⌝ }
+    ensures { λ n. ⌜ drop 16384 (now (room .exit)) ≡ drop 16384 (now (room .entry)) ⌝ }
+{
+    if !tree::in_order(t, old, room) {
+        return 2053;
+    }
+    tokens_in(old, tree::count_at(old))
+}
+
+// Judges what is lent up to the old tree, `wide` the words of the tree to write: how many tokens the old tree has, or 2,048 and the number of
+// the refusal, 1 to 5.
+fn begin(table: &[u8], old: &[u32], wide: usize, room: &mut [u32]) -> usize
+    ensures { λ n. ⌜ Begun (now (table .entry)) (now (old .entry)) wide (now (room .entry)) (now (room .exit)) n ⌝ }
+{
+    if !enough(wide, room.len()) {
+        return 2049;
+    }
+    let found = table::check_table(table);
+    match found {
+        Check::Layout => 2050,
+        Check::Grammar => 2051,
+        Check::States(_, _) => 2052,
+        Check::Yes => old_tokens(table, old, room),
+    }
+}
+
+// The refusal of number k, 2 to 6, with place 0.
+fn refusal(k: usize) -> Answer
+    requires { ⌜ (1 < k) × (k ≤ 6) ⌝ }
+    ensures { λ r. ⌜ valueOf r ≡ Answers.refusal k 0 ⌝ }
+{
+    if k < 3 {
+        return Answer::Layout;
+    }
+    if k < 4 {
+        return Answer::Grammar;
+    }
+    if k < 5 {
+        return Answer::States;
+    }
+    if k < 6 {
+        return Answer::OldTree;
+    }
+    Answer::Text
+}
+
+// The end of an update by what was found of all that is lent: the refusal, or the reading of the list of m words.
+fn finish<'a>(
     t: &[u8],
     old: &'a [u32],
-    edits: &[u32],
     put: &'a [u32],
     tree: &mut [u32],
     room: &mut [u32],
+    m: usize,
 ) -> Answer
-    requires { ⌜ Accepted (now t) × (6146 ≤ length (now tree)) × (16384 ≤ length (now room)) ⌝ }
+    requires { ⌜ Handed (now t) (now old) (now put) (now tree) (now room) m ⌝ }
     ensures { λ r.
         ⌜
-        told r (now (tree .exit)) (now (room .exit))
-        ≡ update (now (t .entry)) (now (old .entry)) (now (edits .entry)) (now (put .entry)) (now (tree .entry)) (now (room .entry))
+        Ended (now (t .entry)) (now (old .entry)) (now (put .entry)) (now (tree .entry)) (now (room .entry)) m (told r (now (tree .exit)) (now (room .exit)))
         ⌝ }
 {
-    if !tree::in_order(t, old, room) {
-        machine::wipe(room);
-        return Answer::OldTree;
+    if m == 2049 {
+        return Answer::Small;
     }
-    let n = tokens_in(old, tree::count_at(old));
-    if !edits::edits_right(t, edits, put, n) {
-        machine::wipe(room);
-        return Answer::Text;
+    if m > 2048 {
+        return refuse(room, refusal(m - 2048));
     }
-    updating::update_tree(t, old, edits, put, tree, room)
+    updating::update_tree(t, old, put, tree, room, m)
 }
 
-// A tree updated after edits: the answer, with the counts or the refusal's place; the tree written if it is accepted; the room cleared.
+// A tree updated after edits, a row of three words an edit: the answer, with the counts or the refusal's place; the tree written if it is
+// accepted; the room cleared.
 pub fn update<'a>(
     table: &[u8],
     old: &'a [u32],
@@ -173,14 +223,31 @@ pub fn update<'a>(
         UpdatedAll (now (table .entry)) (now (old .entry)) (now (edits .entry)) (now (put .entry)) (now (tree .entry)) (now (room .entry)) (told r (now (tree .exit)) (now (room .exit)))
         ⌝ }
 {
-    if !enough(tree, room) {
-        return Answer::Small;
-    }
-    let found = table::check_table(table);
-    match found {
-        Check::Layout => refuse(room, Answer::Layout),
-        Check::Grammar => refuse(room, Answer::Grammar),
-        Check::States(_, _) => refuse(room, Answer::States),
-        Check::Yes => update_taken(table, old, edits, put, tree, room),
-    }
+    let n = begin(table, old, tree.len(), room);
+    let m = edits::list_words(table, old, edits, put, room, n);
+    finish(table, old, put, tree, room, m)
+}
+
+// The same with the edits as a lent slice of structs, a list of any length.
+pub fn update_edits<'a>(
+    table: &[u8],
+    old: &'a [u32],
+    edits: &[edit_lists::Edit],
+    put: &'a [u32],
+    tree: &mut [u32],
+    room: &mut [u32],
+) -> Answer
+    ensures { λ r.
+        ⌜
+        told r (now (tree .exit)) (now (room .exit))
+        ≡ update (now (table .entry)) (now (old .entry)) (wordsOf (now (edits .entry))) (now (put .entry)) (now (tree .entry)) (now (room .entry))
+        ⌝ }
+    ensures { λ r.
+        ⌜
+        UpdatedAll (now (table .entry)) (now (old .entry)) (wordsOf (now (edits .entry))) (now (put .entry)) (now (tree .entry)) (now (room .entry)) (told r (now (tree .exit)) (now (room .exit)))
+        ⌝ }
+{
+    let n = begin(table, old, tree.len(), room);
+    let m = edit_lists::list_edits(table, old, edits, put, room, n);
+    finish(table, old, put, tree, room, m)
 }

@@ -12,6 +12,7 @@ ghost use Rattle.theory.specs.Edits.FromMarks.{readingList};
 ghost use Rattle.list.specs.Pending.{Pending, Counted};
 ghost use Rattle.edits.specs.Fits.{Passes};
 ghost use Rattle.edits.specs.Marks.{NextEdit, EditPassed};
+ghost use Rattle.edits.specs.Made.{Tokens, Lists};
 ghost use Rattle.edit_lists.specs.Words.{edit, wordsOf};
 
 // "Each edit is a record of place, tokens removed, tokens put in."
@@ -89,4 +90,26 @@ pub fn make_list(old: &[u32], edits: &[Edit], put: &[u32], room: &mut [u32]) -> 
         i += 1;
     }
     edits::list_marked(old, put, room, m)
+}
+
+// Judges the edits of an old tree of n tokens and makes their reading list in the room: how many words it has, or 2,048 and the number of the
+// refusal. Where n says that there is a refusal before, it is handed on.
+pub fn list_edits(
+    t: &[u8],
+    old: &[u32],
+    edits: &[Edit],
+    put: &[u32],
+    room: &mut [u32],
+    n: usize,
+) -> usize
+    requires { ⌜ (n ≤ 2048 → Tokens (now t) (now old) (now room) n) ⌝ }
+    ensures { λ m. ⌜ Lists (now (t .entry)) (now (old .entry)) (wordsOf (now (edits .entry))) (now (put .entry)) (now (room .entry)) (now (room .exit)) n m ⌝ }
+{
+    if n > 2048 {
+        return n;
+    }
+    if edits_right(t, edits, put, n) {
+        return make_list(old, edits, put, room);
+    }
+    2054
 }

@@ -1,4 +1,4 @@
--- What the crate's contracts cite: edits in order judged on the lent words, and what the marks of the edits are.
+-- What the crate's contracts cite: edits in order judged on the lent words, what the marks of the edits are, and their list.
 pub mod Codes
 pub mod Before
 pub mod Length
@@ -11,3 +11,4 @@ pub mod Pushing
 pub mod Going
 pub mod Stepping
 pub mod Begin
+pub mod Made

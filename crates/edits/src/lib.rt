@@ -19,6 +19,7 @@ ghost use Rattle.edits.specs.Pushing.{Pushes};
 ghost use Rattle.edits.specs.Going.{Case, Going, list};
 ghost use Rattle.edits.specs.Stepping.{Room, CleanBy};
 ghost use Rattle.edits.specs.Begin.{Ready, AllPassed, ListMade};
+ghost use Rattle.edits.specs.Made.{Tokens, Lists};
 
 // ---- the inserted codes
 
@@ -346,4 +347,26 @@ pub fn make_list(old: &[u32], edits: &[u32], put: &[u32], room: &mut [u32]) -> u
         k += 3;
     }
     list_marked(old, put, room, m)
+}
+
+// Judges the edits of an old tree of n tokens and makes their reading list in the room: how many words it has, or 2,048 and the number of the
+// refusal. Where n says that there is a refusal before, it is handed on.
+pub fn list_words(
+    t: &[u8],
+    old: &[u32],
+    edits: &[u32],
+    put: &[u32],
+    room: &mut [u32],
+    n: usize,
+) -> usize
+    requires { ⌜ (n ≤ 2048 → Tokens (now t) (now old) (now room) n) ⌝ }
+    ensures { λ m. ⌜ Lists (now (t .entry)) (now (old .entry)) (now (edits .entry)) (now (put .entry)) (now (room .entry)) (now (room .exit)) n m ⌝ }
+{
+    if n > 2048 {
+        return n;
+    }
+    if !edits_right(t, edits, put, n) {
+        return 2054;
+    }
+    make_list(old, edits, put, room)
 }

@@ -119,6 +119,10 @@ module _ {t old edits put : List ℕ} {r : NRow} {es : List Edit} (J : Judged t 
       pub too-many : {tree′ : List ℕ} → Answers tree tree′ (numbers tree-read) false → told NoNumber tree′ (cleared lent) ≡ finished tree lent numbers done
       too-many A = sym (judged ∙ told-no lent k A)
 
+-- the edits were judged, and their list stands in the room
+abbrev pub Ready : (t old put room : List ℕ) → ℕ → Type 0
+Ready t old put room m = (edits : List ℕ) × (r : NRow) × (es : List Edit) × (J : Judged t old edits put r es) × Listed t old put room m (list J)
+
 -- ---- the room handed back: what stood in its first words does not show once they are wiped
 pub cleared-above : (xs ys : List ℕ) → drop 16384 xs ≡ drop 16384 ys → cleared xs ≡ cleared ys
 unfolding cleared

@@ -23,7 +23,7 @@ ghost use Rattle.updating.specs.Copy.{Rooted, Copied};
 ghost use Rattle.updating.specs.Shift.{Ripe, Shifts};
 ghost use Rattle.updating.specs.Turns.{turnOf, Reduces, Facing, Listed, Does, Above};
 ghost use Rattle.updating.specs.Running.{Ends, counting};
-ghost use Rattle.updating.specs.Finish.{Judged, done, numbers};
+ghost use Rattle.updating.specs.Finish.{Judged, list, done, numbers, Ready};
 use answers::Answer;
 use answers::Counts;
 use machine::Act;
@@ -468,28 +468,24 @@ fn finish(e: End, old: &[u32], tree: &mut [u32], room: &mut [u32]) -> Answer
     }
 }
 
-// A tree in order updated by edits in order, under an accepted table and with room enough: the answer, the tree written if it is accepted, the
-// room cleared.
+// A tree in order updated by edits in order whose list stands in the room, under an accepted table and with room enough: the answer, the tree
+// written if it is accepted, the room cleared.
 pub fn update_tree<'a>(
     t: &[u8],
     old: &'a [u32],
-    edits: &[u32],
     put: &'a [u32],
     tree: &mut [u32],
     room: &mut [u32],
+    m: usize,
 ) -> Answer
-    requires { ⌜
-        (6146 ≤ length (now tree))
-        × (16384 ≤ length (now room))
-        × ((r : NRow) × (es : List Edit) × Judged (now t) (now old) (now edits) (now put) r es)
-        ⌝ }
+    requires { ⌜ (6146 ≤ length (now tree)) × (16384 ≤ length (now room)) × Ready (now t) (now old) (now put) (now room) m ⌝ }
     ensures { λ a.
         ⌜
-        ((r : NRow) (es : List Edit) (J : Judged (now (t .entry)) (now (old .entry)) (now (edits .entry)) (now (put .entry)) r es)
+        ((edits : List ℕ) (r : NRow) (es : List Edit) (J : Judged (now (t .entry)) (now (old .entry)) edits (now (put .entry)) r es)
+        → Listed (now (t .entry)) (now (old .entry)) (now (put .entry)) (now (room .entry)) m (list J)
         → told a (now (tree .exit)) (now (room .exit)) ≡ finished (now (tree .entry)) (now (room .entry)) (numbers J) (done J))
         ⌝ }
 {
-    let m = edits::make_list(old, edits, put, room);
     let e = read_list(t, old, put, room, m);
     let a = finish(e, old, tree, room);
     machine::wipe(room);

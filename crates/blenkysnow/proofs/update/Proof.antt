@@ -1,26 +1,23 @@
--- `blenkysnow::update` meets its contract: by the room that is lent, by the table check's answer, then by the update. Assumes nothing.
-use mathlib.Core.Path.{ap, sym, subst, _∙_}
-use Prim.Native.Nat.{_<_}
-use native.Mathlib.Omega.{arith}
-use borrow.Author.Tests.{not-true, not-false}
-use Rattle.answers.specs.declared.Answer.{Answer}
-use Rattle.answers.specs.declared.Answer.the-variants.{Layout, Grammar, States}
-use Rattle.theory.specs.Check.Says.{refused}
-use Rattle.theory.specs.Demands.Calls.{Enough, Checks}
+-- `blenkysnow::update` meets its contract: its three stages tell the call. Assumes nothing.
+use lib.ListN.{length}
 use Rattle.reading.specs.Fresh.{told}
-use Rattle.table.specs.Answer.{number}
-use Rattle.blenkysnow.specs.Afresh.{taken}
-use Rattle.blenkysnow.specs.Update.{too-short′, refused-by′, tells′}
+use Rattle.blenkysnow.specs.Update.{tells′}
+use Rattle.blenkysnow.specs.Stages.{may-list, may-end, told-all}
 use borrow.Author.Needs.{needs}
 use Rattle.blenkysnow.proofs.update.Statement.{statement}
 use Rattle.blenkysnow.proofs.update.Tie as tie
 
--- room enough is lent
-lent : (c : tie.Else1) → let a = c .before .before .before .before .before .before .before .before .before .before .args in Enough (a .tree .now) (a .room .now)
-lent c = c .before .enough .ensures .to (not-false _ (c .if1 .left))
+begin-requires : tie.Need-begin-requires
+begin-requires c κs = search needs
 
-enough-requires : tie.Need-enough-requires
-enough-requires c κs = search needs
+list-words-requires : tie.Need-list-words-requires
+list-words-requires c κs = may-list (c .before .before .before .begin .ensures)
+
+finish-requires : tie.Need-finish-requires
+finish-requires c κs =
+    let b = c .before .before .before .before .before .before .before .before .begin in
+    let l = c .before .before .before .before .list-words in
+    may-end (b .kept .1 .1 .1 .0) (l .kept .1 .1 .1 .1 .0) (b .ensures) (l .ensures)
 
 same-length : tie.Need-same-length
 same-length c = search needs
@@ -29,117 +26,13 @@ same-length-2 : tie.Need-same-length-2
 same-length-2 c = search needs
 
 returns : tie.Need-returns
-returns c = tells′ _ _ _ _ _ _ (sym (too-short′ _ _ _ _ _ _ (refused (c .before .enough .ensures) (not-true _ (c .if1 .taken)))))
-
-check-table-requires : tie.Need-check-table-requires
-check-table-requires c κs = search needs
-
-enum-told : tie.Need-enum-told
-enum-told c = search needs
-
-refuse-requires : tie.Need-refuse-requires
-refuse-requires c κs = lent (c .before .before .before .before) .roomy
-
-enum-told-2 : tie.Need-enum-told-2
-enum-told-2 c = search needs
-
-refuse-requires-2 : tie.Need-refuse-requires-2
-refuse-requires-2 c κs = lent (c .before .before .before .before) .roomy
-
-enum-told-3 : tie.Need-enum-told-3
-enum-told-3 c = search needs
-
-refuse-requires-3 : tie.Need-refuse-requires-3
-refuse-requires-3 c κs = lent (c .before .before .before .before) .roomy
-
-enum-told-4 : tie.Need-enum-told-4
-enum-told-4 c = search needs
-
-update-taken-requires : tie.Need-update-taken-requires
-update-taken-requires c κs =
-    let e = lent (c .before .before .before .before .before) in
-    (taken (ap number (c .before .before .enum-told4 .given .1)) (c .before .before .before .before .check-table .ensures .1 .0), e .wide, e .roomy)
-
-same-length-3 : tie.Need-same-length-3
-same-length-3 c = search needs
-
-same-length-4 : tie.Need-same-length-4
-same-length-4 c = search needs
-
-returns-2 : tie.Need-returns-2
-returns-2 c =
-    let a = c .before .before .before .before .before .before .before .before .before .before .before .before .before .before .before .before .before .args in
-    let e = lent (c .before .before .before .before .before .before .before) in
-    let r = c .before .before .refuse .ensures in
-    tells′ _ _ _ _ _ _
-    (ap (λ (x : Answer). told x (a .tree .now) (c .before .before .refuse .last .0)) (r .0) ∙ ap (told Layout (a .tree .now)) (r .1)
-    ∙ sym (refused-by′ (a .table .now) (a .old .now) (a .edits .now) (a .put .now) (a .tree .now) (a .room .now) (e .wide) (e .roomy) 2 (omega arith) (subst (λ x. Checks (a .table .now) (number x)) (c .before .before .before .before .enum-told .given .1) (c .before .before .before .before .before .before .check-table .ensures .1 .0))))
-
-same-length-5 : tie.Need-same-length-5
-same-length-5 c = search needs
-
-same-length-6 : tie.Need-same-length-6
-same-length-6 c = search needs
-
-returns-3 : tie.Need-returns-3
-returns-3 c =
-    let a = c .before .before .before .before .before .before .before .before .before .before .before .before .before .before .before .before .before .args in
-    let e = lent (c .before .before .before .before .before .before .before) in
-    let r = c .before .before .refuse2 .ensures in
-    tells′ _ _ _ _ _ _
-    (ap (λ (x : Answer). told x (a .tree .now) (c .before .before .refuse2 .last .0)) (r .0) ∙ ap (told Grammar (a .tree .now)) (r .1)
-    ∙ sym (refused-by′ (a .table .now) (a .old .now) (a .edits .now) (a .put .now) (a .tree .now) (a .room .now) (e .wide) (e .roomy) 3 (omega arith) (subst (λ x. Checks (a .table .now) (number x)) (c .before .before .before .before .enum-told2 .given .1) (c .before .before .before .before .before .before .check-table .ensures .1 .0))))
-
-same-length-7 : tie.Need-same-length-7
-same-length-7 c = search needs
-
-same-length-8 : tie.Need-same-length-8
-same-length-8 c = search needs
-
-returns-4 : tie.Need-returns-4
-returns-4 c =
-    let a = c .before .before .before .before .before .before .before .before .before .before .before .before .before .before .before .before .before .args in
-    let e = lent (c .before .before .before .before .before .before .before) in
-    let r = c .before .before .refuse3 .ensures in
-    tells′ _ _ _ _ _ _
-    (ap (λ (x : Answer). told x (a .tree .now) (c .before .before .refuse3 .last .0)) (r .0) ∙ ap (told States (a .tree .now)) (r .1)
-    ∙ sym (refused-by′ (a .table .now) (a .old .now) (a .edits .now) (a .put .now) (a .tree .now) (a .room .now) (e .wide) (e .roomy) 4 (omega arith) (subst (λ x. Checks (a .table .now) (number x)) (c .before .before .before .before .enum-told3 .given .1) (c .before .before .before .before .before .before .check-table .ensures .1 .0))))
-
-same-length-9 : tie.Need-same-length-9
-same-length-9 c = search needs
-
-same-length-10 : tie.Need-same-length-10
-same-length-10 c = search needs
-
-returns-5 : tie.Need-returns-5
-returns-5 c = tells′ _ _ _ _ _ _ (c .before .before .before .before .update-taken .ensures)
+returns c =
+    let a = c .before .before .before .before .before .before .before .before .before .before .before .before .before .before .before .before .before .before .before .before .before .args in
+    let b = c .before .before .before .before .before .before .before .before .before .before .before .before .before .begin in
+    let l = c .before .before .before .before .before .before .before .before .before .list-words in
+    tells′ _ _ _ _ _ _ (told-all (b .kept .1 .1 .1 .0) (l .kept .1 .1 .1 .1 .0) (b .ensures) (l .ensures) (c .before .before .before .before .finish .ensures))
 
 pub update-spec : {M : Type 1} → statement M
 update-spec =
     tie.close
-    (tie.spec
-    enough-requires
-    same-length
-    same-length-2
-    returns
-    check-table-requires
-    enum-told
-    refuse-requires
-    enum-told-2
-    refuse-requires-2
-    enum-told-3
-    refuse-requires-3
-    enum-told-4
-    update-taken-requires
-    same-length-3
-    same-length-4
-    returns-2
-    same-length-5
-    same-length-6
-    returns-3
-    same-length-7
-    same-length-8
-    returns-4
-    same-length-9
-    same-length-10
-    returns-5)
+    (tie.spec begin-requires list-words-requires finish-requires same-length same-length-2 returns)
