@@ -1,0 +1,123 @@
+//! The four functions of libboundary.a, as include/blenkysnow.h declares them, and a safe function over each. Nothing else here is unsafe.
+#![allow(unsafe_code)]
+
+use std::mem::{align_of, size_of};
+
+use crate::rows::Edit;
+
+/// The bytes of the house table.
+pub const HOUSE_BYTES: usize = 320;
+
+extern "C" {
+    fn blenkysnow_house(table: *mut u8);
+    fn blenkysnow_check(table: *const u8, table_bytes: usize, broken: *mut u32) -> u32;
+    fn blenkysnow_read_afresh(
+        table: *const u8,
+        table_bytes: usize,
+        codes: *const u32,
+        code_count: usize,
+        first: u32,
+        tree: *mut u32,
+        tree_words: usize,
+        room: *mut u32,
+        room_words: usize,
+        told: *mut u32,
+    ) -> u32;
+    fn blenkysnow_update(
+        table: *const u8,
+        table_bytes: usize,
+        old: *const u32,
+        old_words: usize,
+        edits: *const u32,
+        edit_words: usize,
+        put: *const u32,
+        put_count: usize,
+        tree: *mut u32,
+        tree_words: usize,
+        room: *mut u32,
+        room_words: usize,
+        told: *mut u32,
+    ) -> u32;
+}
+
+// SAFETY, of every call below: each pointer comes from a slice or an array with the length that goes with it, so it is not null, also of an
+// empty row; what is written is borrowed as `&mut`, so it overlaps nothing else; and the functions are proved to stay within what they are
+// lent, to end, and to keep no pointer.
+
+/// The house table: terminals end, m (1), `[` (2), `]` (3).
+pub fn house() -> [u8; HOUSE_BYTES] {
+    let mut table = [0; HOUSE_BYTES];
+    unsafe { blenkysnow_house(table.as_mut_ptr()) };
+    table
+}
+
+/// The number that the table check answers, and the condition and state that it names.
+pub(crate) fn check(table: &[u8]) -> (u32, [u32; 2]) {
+    let mut broken = [0; 2];
+    let number = unsafe { blenkysnow_check(table.as_ptr(), table.len(), broken.as_mut_ptr()) };
+    (number, broken)
+}
+
+/// The number of a reading's answer, and its place and five counts.
+pub(crate) fn read_afresh(
+    table: &[u8],
+    codes: &[u32],
+    first: u32,
+    tree: &mut [u32],
+    room: &mut [u32],
+) -> (u32, [u32; 6]) {
+    let mut told = [0; 6];
+    let number = unsafe {
+        blenkysnow_read_afresh(
+            table.as_ptr(),
+            table.len(),
+            codes.as_ptr(),
+            codes.len(),
+            first,
+            tree.as_mut_ptr(),
+            tree.len(),
+            room.as_mut_ptr(),
+            room.len(),
+            told.as_mut_ptr(),
+        )
+    };
+    (number, told)
+}
+
+/// The number of an update's answer, and its place and five counts.
+pub(crate) fn update(
+    table: &[u8],
+    old: &[u32],
+    edits: &[u32],
+    put: &[u32],
+    tree: &mut [u32],
+    room: &mut [u32],
+) -> (u32, [u32; 6]) {
+    let mut told = [0; 6];
+    let number = unsafe {
+        blenkysnow_update(
+            table.as_ptr(),
+            table.len(),
+            old.as_ptr(),
+            old.len(),
+            edits.as_ptr(),
+            edits.len(),
+            put.as_ptr(),
+            put.len(),
+            tree.as_mut_ptr(),
+            tree.len(),
+            room.as_mut_ptr(),
+            room.len(),
+            told.as_mut_ptr(),
+        )
+    };
+    (number, told)
+}
+
+const _: () = assert!(size_of::<Edit>() == 12 && align_of::<Edit>() == align_of::<u32>());
+
+/// The row of words that a slice of edits is.
+pub(crate) fn words_of(edits: &[Edit]) -> &[u32] {
+    // SAFETY: an edit is three words in a row, with nothing between them (`repr(C)`, and the sizes above), so its slice is as many words.
+    unsafe { std::slice::from_raw_parts(edits.as_ptr().cast(), 3 * edits.len()) }
+}
