@@ -12,9 +12,25 @@ sys.path.insert(0, os.path.join(os.path.dirname(os.path.abspath(__file__)), "com
 from cases import Tally, here, judge, number, of_read, of_update, run, threes, vectors
 
 archive = os.path.join(here, "target", "staticlib", "libboundary.a")
-header = open(os.path.join(here, "include", "blenkysnow.h"), encoding="utf-8").read()
+refusals = "ACCEPTED SMALL LAYOUT GRAMMAR STATES OLD_TREE TEXT NO_ACTION NO_ROOM NO_NUMBER NO_GOTO"
+fixed = {"BLENKYSNOW_" + name: no for no, name in enumerate(refusals.split())}
+fixed |= {"sizeof(struct blenkysnow_broken)": 8, "sizeof(struct blenkysnow_told)": 24, "sizeof(struct blenkysnow_edit)": 12}
+fixed |= {"BLENKYSNOW_TREE_WORDS": 6146, "BLENKYSNOW_ROOM_WORDS": 16384, "BLENKYSNOW_WORDS_OF(2048)": 6146, "BLENKYSNOW_HOUSE_BYTES": 320}
+fixed |= {"BLENKYSNOW_SHEET_BYTES": 9 + 10 * 200 + 2 * 200 * 64 + 200 * 64 + 2 * 200 + 10 * 2400}
+fixed |= {"BLENKYSNOW_MOST_NODES": 2048, "BLENKYSNOW_MOST_TOKENS": 2048}
+counts = "left_breaks right_breaks whole_shifts token_shifts reductions"
+for struct, fields in ("broken", "condition state"), ("told", "place " + counts), ("edit", "place removed put_in"):
+    fixed |= {f"offsetof(struct blenkysnow_{struct}, {field})": 4 * i for i, field in enumerate(fields.split())}
 tally = Tally()
 scratch = tempfile.TemporaryDirectory()
+
+
+def text(path):
+    """A file of the repository."""
+    return open(os.path.join(here, path), encoding="utf-8").read()
+
+
+header = text("include/blenkysnow.h")
 
 
 def called(command, **more):
@@ -37,11 +53,11 @@ def compiled(source, *args):
     return called([program, *args]) if status == 0 else (status, said)
 
 
-def written(name, text):
+def written(name, program):
     """A file of the scratch folder."""
     path = os.path.join(scratch.name, name)
     with open(path, "w", encoding="utf-8") as file:
-        file.write(text)
+        file.write(program)
     return path
 
 
@@ -62,9 +78,9 @@ def declared():
     return set(re.findall(r"\b(blenkysnow_\w+)\(", code)), set(re.findall(r"static inline \w+ (blenkysnow_\w+)\(", code))
 
 
-def broken(text):
+def broken(printed):
     """The answers of kind C, a table each: the number, and with 4 the condition and the state."""
-    said, found = text.split(), []
+    said, found = printed.split(), []
     while said:
         many = 3 if said[0] == "4" else 1
         found, said = [*found, said[:many]], said[many:]
@@ -78,43 +94,51 @@ def wrapper():
     status, said = called(["cargo", "test", *manifest], env=where)
     tests = re.findall(r"^test .* \.\.\. (\w+)$", said, re.M)
     tally.group("the wrapper's own tests", ["ok"] * len(tests) or ["tests"], tests)
-    status, built = called(["cargo", "build", "--examples", *manifest], env=where)
-    tally.group("the judge over the wrapper is built", [0], [status])
+    status, more = called(["cargo", "build", "--examples", *manifest], env=where)
+    tally.group("the wrapper's examples are built", [0], [status])
     if status:
-        print(said[-2000:], built[-2000:])
+        print(said[-2000:], more[-2000:])
         return
-    program = [os.path.join(where["CARGO_TARGET_DIR"], "release", "examples", "judge")]
+    built = os.path.join(where["CARGO_TARGET_DIR"], "release", "examples")
+    picture = re.findall(r"^```\n\$ cargo run [^\n]* --example weights\n(.*?)^```$", text("docs/USERS.md"), re.M | re.S)
+    tally.group("the weights of docs/USERS.md", picture or ["a picture"], [run([os.path.join(built, "weights")], b"")])
+    program = [os.path.join(built, "judge")]
     tables = vectors("table.jsonl")
     cases = [number(len(t)) + t for t in (bytes.fromhex(v["table"]) for v in tables)]
     answers = run(program, b"".join(b"T" + case for case in cases)).split()
     tally.group("tables of the stored vectors", [str(v["expect"]["no"]) for v in tables], answers)
     named = b"".join(b"C" + case for case in cases)
     tally.group("conditions and states as the judge names them", broken(run(judge, named)), broken(run(program, named)))
-    for what, pairs in ("readings", [of_read(v) for v in vectors("read.jsonl")]), ("updates", [of_update(v) for v in vectors("update.jsonl")]):
+    readings, updates = [of_read(v) for v in vectors("read.jsonl")], [of_update(v) for v in vectors("update.jsonl")]
+    for what, pairs in ("readings", readings), ("updates", updates):
         given = b"".join(case for case, _ in pairs)
         tally.group(f"{what} of the stored vectors", [wanted for _, wanted in pairs], threes(run(program, given)))
 
 
 drawn = called([sys.executable, "tools/show", "m [ m m ]", "3", "0", "m"])
-shown = open(os.path.join(here, "examples", "update.txt"), encoding="utf-8").read()
+shown = text("examples/update.txt")
 tally.group("the example's trees as the judge makes them", [(0, shown)], [drawn])
 names, own = declared()
 found = examples()
 tally.group("each function of the header has an example", sorted(names), sorted(found))
+exported = set(re.findall(r'^pub extern "C" fn (\w+)', text("crates/boundary/src/lib.rt"), re.M))
+tally.group("the header declares what the crate exports", sorted(exported), sorted(names - own))
+tally.group("so does the wrapper", sorted(exported), sorted(set(re.findall(r"\bfn (blenkysnow_\w+)", text("wrapper/src/boundary.rs")))))
 sources = {name: written(name + ".c", program) for name, (program, _) in found.items()}
 
+status, said = called(["rt", "staticlib", "boundary"])
+tally.group("the static library is proved and built", [0], [status])
+if status:
+    print(said[-2000:])
+
 if platform.machine() == "x86_64":
-    status, said = called(["rt", "staticlib", "boundary"])
-    tally.group("the static library is proved and built", [0], [status])
-    if status:
-        print(said[-2000:])
     symbols = re.findall(r" T (\S+)$", called(["nm", "-g", archive])[1], re.M)
-    tally.group("the archive defines what the header declares, and no more", sorted(names - own), sorted(symbols))
+    tally.group("the archive defines them and no more", sorted(exported), sorted(symbols))
     tally.group("the header's examples", [(0, prints) for _, prints in found.values()], [compiled(source) for source in sources.values()])
-    sizes = ["struct blenkysnow_broken", "struct blenkysnow_told", "struct blenkysnow_edit"]
     program = "#include <stdio.h>\n#include \"blenkysnow.h\"\n\nint main(void)\n{\n"
-    program += "".join(f'    printf("%zu\\n", sizeof({s}));\n' for s in sizes) + "    return 0;\n}\n"
-    tally.group("structs are rows of words", [(0, "8\n24\n12\n")], [compiled(written("sizes.c", program))])
+    program += "".join(f'    printf("%d\\n", (int)({value}));\n' for value in fixed) + "    return 0;\n}\n"
+    status, said = compiled(written("fixed.c", program))
+    tally.group("structs and constants of the header", [f"{value}" for value in fixed.values()], said.splitlines())
     tally.group("the example program", [(0, shown)], [compiled("examples/update.c", "tables/house.lrt")])
     wrapper()
 else:
