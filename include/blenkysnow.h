@@ -212,8 +212,8 @@ uint32_t blenkysnow_update(const uint8_t *table, size_t table_bytes, const uint3
                            size_t room_words, struct blenkysnow_told *told);
 
 /*
- * The same call over an array of edits, which is the same row of words in memory. Refusals, rows and answer are those of
- * blenkysnow_update; edit_count is in edits, so no part of an edit can stand at the end.
+ * The same call over an array of edits. Refusals, rows and answer are those of blenkysnow_update; edit_count is in edits, so no part of an
+ * edit can stand at the end.
  *
  * Example:
  *
@@ -245,14 +245,9 @@ uint32_t blenkysnow_update(const uint8_t *table, size_t table_bytes, const uint3
  *     0: 12 nodes, next number 20, was 10
  *     4 token shifts, 8 reductions
  */
-static inline uint32_t blenkysnow_update_edits(const uint8_t *table, size_t table_bytes, const uint32_t *old, size_t old_words,
-                                               const struct blenkysnow_edit *edits, size_t edit_count, const uint32_t *put,
-                                               size_t put_count, uint32_t *tree, size_t tree_words, uint32_t *room, size_t room_words,
-                                               struct blenkysnow_told *told)
-{
-    return blenkysnow_update(table, table_bytes, old, old_words, (const uint32_t *)edits, 3 * edit_count, put, put_count, tree,
-                             tree_words, room, room_words, told);
-}
+uint32_t blenkysnow_update_edits(const uint8_t *table, size_t table_bytes, const uint32_t *old, size_t old_words,
+                                 const struct blenkysnow_edit *edits, size_t edit_count, const uint32_t *put, size_t put_count,
+                                 uint32_t *tree, size_t tree_words, uint32_t *room, size_t room_words, struct blenkysnow_told *told);
 
 /* ---- Numbers of refusal ---- */
 

@@ -64,7 +64,7 @@ def written(name, program):
 def examples():
     """The example above each function of the header, by the function's name: the program and what it prints."""
     found = {}
-    for comment, name in re.findall(r"/\*((?:(?!\*/).)*)\*/\n(?:static inline )?(?:uint32_t|void) (\w+)\(", header, re.S):
+    for comment, name in re.findall(r"/\*((?:(?!\*/).)*)\*/\n(?:uint32_t|void) (\w+)\(", header, re.S):
         lines = [line.removeprefix(" *").removeprefix("     ") for line in comment.split("\n")]
         if " Example:" in lines and " It prints:" in lines:
             first, second = lines.index(" Example:"), lines.index(" It prints:")
@@ -73,9 +73,8 @@ def examples():
 
 
 def declared():
-    """The functions that the header declares, and of them those that it defines itself."""
-    code = re.sub(r"/\*.*?\*/", "", header, flags=re.S)
-    return set(re.findall(r"\b(blenkysnow_\w+)\(", code)), set(re.findall(r"static inline \w+ (blenkysnow_\w+)\(", code))
+    """The functions that the header declares."""
+    return set(re.findall(r"\b(blenkysnow_\w+)\(", re.sub(r"/\*.*?\*/", "", header, flags=re.S)))
 
 
 def broken(printed):
@@ -110,7 +109,9 @@ def wrapper():
     named = b"".join(b"C" + case for case in cases)
     tally.group("conditions and states as the judge names them", broken(run(judge, named)), broken(run(program, named)))
     readings, updates = [of_read(v) for v in vectors("read.jsonl")], [of_update(v) for v in vectors("update.jsonl")]
-    for what, pairs in ("readings", readings), ("updates", updates):
+    whole = [len(v["edits"]) % 24 == 0 for v in vectors("update.jsonl")]
+    structs = [(b"E" + case[1:], wanted) for (case, wanted), all_three in zip(updates, whole) if all_three]
+    for what, pairs in ("readings", readings), ("updates", updates), ("updates, edits as structs,", structs):
         given = b"".join(case for case, _ in pairs)
         tally.group(f"{what} of the stored vectors", [wanted for _, wanted in pairs], threes(run(program, given)))
 
@@ -118,11 +119,11 @@ def wrapper():
 drawn = called([sys.executable, "tools/show", "m [ m m ]", "3", "0", "m"])
 shown = text("examples/update.txt")
 tally.group("the example's trees as the judge makes them", [(0, shown)], [drawn])
-names, own = declared()
+names = declared()
 found = examples()
 tally.group("each function of the header has an example", sorted(names), sorted(found))
 exported = set(re.findall(r'^pub extern "C" fn (\w+)', text("crates/boundary/src/lib.rt"), re.M))
-tally.group("the header declares what the crate exports", sorted(exported), sorted(names - own))
+tally.group("the header declares what the crate exports", sorted(exported), sorted(names))
 tally.group("so does the wrapper", sorted(exported), sorted(set(re.findall(r"\bfn (blenkysnow_\w+)", text("wrapper/src/boundary.rs")))))
 sources = {name: written(name + ".c", program) for name, (program, _) in found.items()}
 

@@ -1,9 +1,10 @@
 //! The program judge over the wrapper: cases of kinds T, C, R and U from standard input, and what the calls did on standard output, in the
-//! format that the first lines of crates/judge/src/main.rt give. tests/boundary.py feeds it the stored vectors.
+//! format that the first lines of crates/judge/src/main.rt give. Kind E is U with the edits as structs. tests/boundary.py feeds it the
+//! stored vectors.
 
 use std::io::{self, Read, Write};
 
-use blenkysnow::{check, rows, Counts, Refusal, TableRefusal, ROOM_WORDS};
+use blenkysnow::{check, rows, Counts, Edit, Refusal, TableRefusal, ROOM_WORDS};
 
 /// What the words of a tree and of a room are before a call.
 const TREE: u32 = 2779096485;
@@ -33,6 +34,15 @@ impl<'a> Input<'a> {
 
     fn words(&mut self) -> Option<Vec<u32>> {
         (0..self.number()?).map(|_| self.number()).collect()
+    }
+
+    /// A row of words as edits; none where it ends with a part of one.
+    fn edits(&mut self) -> Option<Vec<Edit>> {
+        let row = self.words()?;
+        let edits = row.chunks_exact(3);
+        let whole = edits.remainder().is_empty();
+        let taken = edits.map(|e| Edit { place: e[0], removed: e[1], put_in: e[2] }).collect();
+        whole.then_some(taken)
     }
 
     /// A row of as many words as the next number says, each this one.
@@ -105,6 +115,12 @@ fn case(input: &mut Input) -> Option<String> {
             let (old, edits, put) = (input.words()?, input.words()?, input.words()?);
             let (mut tree, mut room) = (input.lent(TREE)?, input.lent(ROOM)?);
             let answer = rows::update_words(table, &old, &edits, &put, &mut tree, &mut room);
+            Some(told(answer, &tree, &room))
+        }
+        b'E' => {
+            let (old, edits, put) = (input.words()?, input.edits()?, input.words()?);
+            let (mut tree, mut room) = (input.lent(TREE)?, input.lent(ROOM)?);
+            let answer = rows::update(table, &old, &edits, &put, &mut tree, &mut room);
             Some(told(answer, &tree, &room))
         }
         _ => None,

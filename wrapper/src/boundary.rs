@@ -1,4 +1,4 @@
-//! The four functions of libboundary.a, as include/blenkysnow.h declares them, and a safe function over each. Nothing else here is unsafe.
+//! The five functions of libboundary.a, as include/blenkysnow.h declares them, and a safe function over each. Nothing else here is unsafe.
 #![allow(unsafe_code)]
 
 use std::mem::{align_of, size_of};
@@ -30,6 +30,21 @@ extern "C" {
         old_words: usize,
         edits: *const u32,
         edit_words: usize,
+        put: *const u32,
+        put_count: usize,
+        tree: *mut u32,
+        tree_words: usize,
+        room: *mut u32,
+        room_words: usize,
+        told: *mut u32,
+    ) -> u32;
+    fn blenkysnow_update_edits(
+        table: *const u8,
+        table_bytes: usize,
+        old: *const u32,
+        old_words: usize,
+        edits: *const Edit,
+        edit_count: usize,
         put: *const u32,
         put_count: usize,
         tree: *mut u32,
@@ -114,12 +129,37 @@ pub(crate) fn update(
     (number, told)
 }
 
+// An edit is three words in a row, with nothing between them (`repr(C)`), as it is behind the boundary.
 const _: () = assert!(size_of::<Edit>() == 12 && align_of::<Edit>() == align_of::<u32>());
 
-/// The row of words that a slice of edits is.
-pub(crate) fn words_of(edits: &[Edit]) -> &[u32] {
-    // SAFETY: an edit is three words in a row, with nothing between them (`repr(C)`, and the sizes above), so its slice is as many words.
-    unsafe { std::slice::from_raw_parts(edits.as_ptr().cast(), 3 * edits.len()) }
+/// The same with the edits as structs.
+pub(crate) fn update_edits(
+    table: &[u8],
+    old: &[u32],
+    edits: &[Edit],
+    put: &[u32],
+    tree: &mut [u32],
+    room: &mut [u32],
+) -> (u32, [u32; 6]) {
+    let mut told = [u32::MAX; 6];
+    let number = unsafe {
+        blenkysnow_update_edits(
+            table.as_ptr(),
+            table.len(),
+            old.as_ptr(),
+            old.len(),
+            edits.as_ptr(),
+            edits.len(),
+            put.as_ptr(),
+            put.len(),
+            tree.as_mut_ptr(),
+            tree.len(),
+            room.as_mut_ptr(),
+            room.len(),
+            told.as_mut_ptr(),
+        )
+    };
+    (number, told)
 }
 
 #[cfg(test)]
@@ -150,10 +190,16 @@ mod tests {
     }
 
     #[test]
-    fn edits_are_their_words() {
+    fn edits_as_words_and_as_structs_are_the_same() {
+        let (mut old, mut room) = ([5; TREE], [5; ROOM]);
+        assert_eq!(read_afresh(&house(), &[1, 2, 3], 1, &mut old, &mut room).0, 0);
         let edits =
-            [Edit { place: 1, removed: 2, put_in: 3 }, Edit { place: 4, removed: 5, put_in: 6 }];
-        assert_eq!(words_of(&edits), [1, 2, 3, 4, 5, 6]);
-        assert_eq!(words_of(&[]), []);
+            [Edit { place: 0, removed: 1, put_in: 1 }, Edit { place: 2, removed: 0, put_in: 1 }];
+        let (mut words, mut structs) = ([5; TREE], [5; TREE]);
+        let row = [0, 1, 1, 2, 0, 1];
+        let said = update(&house(), &old, &row, &[1, 1], &mut words, &mut room);
+        assert_eq!(said, update_edits(&house(), &old, &edits, &[1, 1], &mut structs, &mut room));
+        assert_eq!((said.0, words[1]), (0, 20));
+        assert_eq!(words, structs);
     }
 }

@@ -52,7 +52,8 @@ pub fn update(
     tree: &mut [u32],
     room: &mut [u32],
 ) -> Result<Counts, Refusal> {
-    update_words(table, old, boundary::words_of(edits), put, tree, room)
+    let (number, told) = boundary::update_edits(table, old, edits, put, tree, room);
+    answer(number, told)
 }
 
 /// The same with the edits as a row of words, three an edit; a part of an edit at the end is [`Refusal::Text`].

@@ -4,6 +4,7 @@ ghost use mathlib.Core.Path.{_≡_};
 ghost use Rattle.definitions.specs.House.{house};
 ghost use Rattle.theory.specs.Answers.{afresh, update};
 ghost use Rattle.answers.specs.Values.{valueOf};
+ghost use Rattle.edit_lists.specs.Words.{wordsOf};
 ghost use Rattle.boundary.specs.Said.{Says, Tells, Checked};
 use answers::Answer;
 use table::Check;
@@ -93,4 +94,26 @@ pub extern "C" fn blenkysnow_update<'a>(
         ⌝ }
 {
     tell(blenkysnow::update(table, old, edits, put, tree, room), told)
+}
+
+// The same with the edits as an array of structs, as `blenkysnow::update_edits`.
+#[no_mangle]
+pub extern "C" fn blenkysnow_update_edits<'a>(
+    table: &[u8],
+    old: &'a [u32],
+    edits: &[edit_lists::Edit],
+    put: &'a [u32],
+    tree: &mut [u32],
+    room: &mut [u32],
+    told: &mut [u32; 6],
+) -> u32
+    ensures { λ r.
+        ⌜
+        Tells r (now (told .exit)) (now (tree .exit)) (now (room .exit)) (update (now (table .entry)) (now (old .entry)) (wordsOf (now (edits .entry))) (now (put .entry)) (now (tree .entry)) (now (room .entry)))
+        ⌝ }
+{
+    tell(
+        blenkysnow::update_edits(table, old, edits, put, tree, room),
+        told,
+    )
 }

@@ -16,6 +16,7 @@ ghost use Rattle.edits.specs.Made.{Tokens, Lists};
 ghost use Rattle.edit_lists.specs.Words.{edit, wordsOf};
 
 // "Each edit is a record of place, tokens removed, tokens put in."
+#[repr(C)]
 pub struct Edit {
     pub place: u32,
     pub removed: u32,
