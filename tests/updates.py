@@ -168,6 +168,10 @@ expect("its numbers in any order", [taken(standing(681), full, mixed, top, row_o
 pairs = [(0, 2047), (2047, 0), (0, 1), (1023, 1024), (512, 1536)] + [dice.sample(range(2048), 2) for _ in range(40)]
 twice = [mixed[:i] + [mixed[j]] + mixed[i + 1 :] for i, j in pairs]
 expect("two of its numbers equal", [refused(5, row_of(nodes(full), numbers, top)) for numbers in twice])
+spans = [range(first, first + 2048 * step, step) for first, step in ((1, 1), (1, 256), (7, 65536), (1, 2097151), (63488, 1), (63489, 1), (63490, 1))]
+spans = [(dice.sample(span, 2048), span[-1] + 1) for span in spans]
+expect("its numbers alike in some digits", [taken(standing(681), full, numbers, after, row_of(nodes(full), numbers, after)) for numbers, after in spans])
+expect("the largest of them the next number", [refused(5, row_of(nodes(full), numbers, after - 1)) for numbers, after in spans])
 
 # ---- edits: their rules
 three = fresh([m, m, m])

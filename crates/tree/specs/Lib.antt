@@ -4,10 +4,13 @@ pub mod Shape
 pub mod Walk
 pub mod Grown
 pub mod Shaped
-pub mod Merge
-pub mod Merging
-pub mod Sorting
+pub mod Cells
+pub mod Buckets
+pub mod Digits
+pub mod Counters
+pub mod Dealing
 pub mod Numbers
-pub mod Places
+pub mod Climb
+pub mod Sorted
 pub mod Tokens
 pub mod Order
