@@ -1,8 +1,6 @@
 // The public calls over lent rows. Nothing is asked of what is lent: each call judges it, in document 01's order of refusals.
 ghost use mathlib.Core.Path.{_≡_};
-ghost use Prim.Native.Nat.{_+_, _*_, _≤_, _<_};
-ghost use mathlib.Core.Bool.{cond};
-ghost use lib.Dec.{ltb};
+ghost use Prim.Native.Nat.{_≤_, _<_};
 ghost use lib.ListN.{length, drop};
 ghost use Rattle.definitions.specs.Sheet.{T, Layout};
 ghost use Rattle.definitions.specs.States.{Accepted};
@@ -13,7 +11,6 @@ ghost use Rattle.theory.specs.Check.Says.{Says};
 ghost use Rattle.theory.specs.Edits.EditsD.{text-in};
 ghost use Rattle.theory.specs.Answers.{readText, afresh, update};
 ghost use Rattle.theory.specs.Demands.Calls.{Afreshed, UpdatedAll};
-ghost use Rattle.tree.specs.Tokens.{tokens};
 ghost use Rattle.answers.specs.Values.{valueOf};
 ghost use Rattle.reading.specs.Fresh.{told};
 ghost use Rattle.edit_lists.specs.Words.{wordsOf};
@@ -109,27 +106,6 @@ pub fn read_afresh(
 
 // ---- updating
 
-// 1 where the kind is a token's, else 0.
-fn token(kind: usize) -> usize
-    ensures { λ r. ⌜ (r ≡ cond (ltb kind 256) 1 0) × (r ≤ 1) ⌝ }
-{
-    if kind < 256 { 1 } else { 0 }
-}
-
-// How many of the first n records of the old row are tokens.
-fn tokens_in(old: &[u32], n: usize) -> usize
-    requires { ⌜ (n ≤ 2048) × (2 + 3 * n ≤ length (now old)) ⌝ }
-    ensures { λ r. ⌜ (r ≡ tokens (now (old .entry)) n) × (r ≤ n) ⌝ }
-{
-    let mut j = 0;
-    let mut k = 0;
-    while j < n {
-        k += token(tree::kind_at(old, j));
-        j += 1;
-    }
-    k
-}
-
 // How many tokens the old tree has, if it is in order, or else 2,048 and the number of the refusal: 5.
 fn old_tokens(t: &[u8], old: &[u32], room: &mut [u32]) -> usize
     requires { ⌜ Accepted (now t) × (16384 ≤ length (now room)) ⌝ }
@@ -139,7 +115,7 @@ fn old_tokens(t: &[u8], old: &[u32], room: &mut [u32]) -> usize
     if !tree::in_order(t, old, room) {
         return 2053;
     }
-    tokens_in(old, tree::count_at(old))
+    tree::tokens_in(old, tree::count_at(old))
 }
 
 // Judges what is lent up to the old tree, `wide` the words of the tree to write: how many tokens the old tree has, or 2,048 and the number of
