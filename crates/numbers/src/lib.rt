@@ -1,14 +1,16 @@
 // Kept numbers: the numbers of an accepted new tree, by document 01's rule, and the tree written. The room holds the new tree's records;
 // each gets a spot word, which says where in the old tree its piece stands. All is linear in the nodes.
 ghost use mathlib.Core.Path.{_≡_};
-ghost use Prim.Native.Nat.{_+_, _-_, _*_, _≤_, _<_};
+ghost use mathlib.Core.List.{List};
+ghost use Prim.Native.Nat.{ℕ, _+_, _-_, _*_, _≤_, _<_};
 ghost use lib.ListN.{length, getD, drop, set};
 ghost use Rattle.definitions.specs.Tree.{Row, size, NRow, erase};
 ghost use Rattle.theory.specs.Check.Says.{Says};
 ghost use Rattle.theory.specs.Numbers.Number.{judge, renumber};
 ghost use Rattle.machine.specs.Room.{statesEnd};
-ghost use Rattle.numbers.specs.Records.{front, kindOf, numberOf, sizeOf, spotOf, Shape, OldRow, Same, Met, At, Told, Spots, Bares};
-ghost use Rattle.numbers.specs.Spots.{Finds, Leads, Settles, Judging};
+ghost use Rattle.numbers.specs.Records.{front, kindOf, numberOf, sizeOf, spotOf, Shape, OldRow, Same, Met, Told, Spots};
+ghost use Rattle.numbers.specs.Spots.{Finds, Judging};
+ghost use Rattle.numbers.specs.Runs.{Starts, Stops, Chosen, Filled, Walking, Started};
 ghost use Rattle.numbers.specs.Given.{Given};
 ghost use Rattle.numbers.specs.Copies.{Reaches, Frame, Copies, Stepped};
 ghost use Rattle.numbers.specs.Back.{Backing};
@@ -145,124 +147,178 @@ fn token_spot(old: &[u32], room: &[u32], m: usize, n: usize, j: usize, from: usi
     LOST
 }
 
-// ---- a node's spot
+// ---- runs: records side by side that stand in the old tree at one shift
 
-// The spot word of the last child of record j that has tokens, or 0.
-fn lead(room: &[u32], n: usize, j: usize) -> u32
-    requires { ⌜ 16384 ≤ length (now room) ⌝ }
-    requires { ⌜ Shape (front (now room)) n ⌝ }
-    requires { ⌜ j < n ⌝ }
-    requires { ⌜ Bares (front (now room)) (now room) j ⌝ }
-    ensures { λ r. ⌜ Leads (front (now (room .entry))) (now (room .entry)) j r ⌝ }
+// Where the run of records at the shift w that ends before record j starts.
+fn run_start(old: &[u32], room: &[u32], m: usize, j: usize, w: u32) -> usize
+    requires { ⌜ (16384 ≤ length (now room)) × (j ≤ 2048) × (2 + 3 * m ≤ length (now old)) ⌝ }
+    ensures { λ r. ⌜ Starts (now (old .entry)) (front (now (room .entry))) m w j r ⌝ }
 {
-    let first = j + 1 - size_of(room, j);
     let mut e = j;
-    while first < e {
-        let w = spot_of(room, e - 1);
-        if w != 0 {
-            return w;
+    while 0 < e {
+        if meets(old, room, m, e - 1, w) {
+            e -= 1;
+        } else {
+            return e;
         }
-        e -= size_of(room, e - 1);
     }
-    0
+    e
 }
 
-// How many records back from record i on stand at the shift w: its whole piece where its spot says so, itself where its piece has no
-// tokens. 0 where its piece does not stand there.
-fn settled(old: &[u32], room: &[u32], m: usize, n: usize, i: usize, w: u32) -> usize
-    requires { ⌜ 16384 ≤ length (now room) ⌝ }
-    requires { ⌜ Shape (front (now room)) n ⌝ }
-    requires { ⌜ OldRow (now old) m ⌝ }
-    requires { ⌜ i < n ⌝ }
-    requires { ⌜ Told (now old) (front (now room)) m i (spotOf (now room) i) ⌝ }
-    requires { ⌜ 2 ≤ w ⌝ }
-    ensures { λ r. ⌜ Settles (now (old .entry)) (front (now (room .entry))) m i w r ⌝ }
+// Where the run of the n records ends that starts with record j, at the old record k.
+fn run_end(old: &[u32], room: &[u32], m: usize, n: usize, j: usize, k: usize) -> usize
+    requires { ⌜ (16384 ≤ length (now room)) × (j ≤ n) × (n ≤ 2048) × (2 + 3 * m ≤ length (now old)) ⌝ }
+    ensures { λ r. ⌜ ((w : ℕ) → k + 2050 ≡ j + w → Stops (now (old .entry)) (front (now (room .entry))) m w n j r) ⌝ }
 {
-    let v = spot_of(room, i);
-    if v == w {
-        return size_of(room, i);
+    let mut e = j;
+    let mut i = k;
+    while e < n {
+        if i >= m {
+            return e;
+        }
+        if same(old, room, e, i) {
+            e += 1;
+            i += 1;
+        } else {
+            return e;
+        }
     }
-    if v != 0 {
+    e
+}
+
+// The spot word of a piece from record `first` on, where the last token stands before record `last`: 0 where that token is before the piece;
+// its word w where the piece is in its run, which starts at `start`; else the piece is lost.
+fn word_of(first: usize, start: usize, last: usize, w: u32) -> u32
+    ensures { λ r. ⌜ Chosen first start last w r ⌝ }
+{
+    if last <= first {
         return 0;
     }
-    if meets(old, room, m, i, w) { 1 } else { 0 }
-}
-
-// Whether the piece that ends with record j stands at the shift w. Records of pieces without tokens are compared here, once each.
-fn agrees(old: &[u32], room: &[u32], m: usize, n: usize, j: usize, w: u32) -> bool
-    requires { ⌜ 16384 ≤ length (now room) ⌝ }
-    requires { ⌜ Shape (front (now room)) n ⌝ }
-    requires { ⌜ OldRow (now old) m ⌝ }
-    requires { ⌜ j < n ⌝ }
-    requires { ⌜ Spots (now old) (front (now room)) m (now room) j ⌝ }
-    requires { ⌜ 2 ≤ w ⌝ }
-    ensures { λ r. ⌜ Says r (At (now (old .entry)) (front (now (room .entry))) m w j) ⌝ }
-{
-    if meets(old, room, m, j, w) {
-        let first = j + 1 - size_of(room, j);
-        let mut e = j;
-        while first < e {
-            let s = settled(old, room, m, n, e - 1, w);
-            if s == 0 {
-                return false;
-            }
-            e -= s;
-        }
-        true
-    } else {
-        false
-    }
-}
-
-// The spot word of record j, a node.
-fn node_spot(old: &[u32], room: &[u32], m: usize, n: usize, j: usize) -> u32
-    requires { ⌜ 16384 ≤ length (now room) ⌝ }
-    requires { ⌜ Shape (front (now room)) n ⌝ }
-    requires { ⌜ OldRow (now old) m ⌝ }
-    requires { ⌜ j < n ⌝ }
-    requires { ⌜ Spots (now old) (front (now room)) m (now room) j ⌝ }
-    requires { ⌜ 256 ≤ kindOf (front (now room)) j ⌝ }
-    ensures { λ r. ⌜ Told (now (old .entry)) (front (now (room .entry))) m j r ⌝ }
-{
-    let w = lead(room, n, j);
-    if w < 2 {
+    if start <= first {
         return w;
     }
-    if agrees(old, room, m, n, j, w) {
-        w
-    } else {
-        LOST
+    LOST
+}
+
+// The first record of the piece that ends with record j.
+fn first_of(room: &[u32], n: usize, j: usize) -> usize
+    requires { ⌜ (16384 ≤ length (now room)) × Shape (front (now room)) n × (j < n) ⌝ }
+    ensures { λ r. ⌜ r + sizeOf (front (now (room .entry))) j ≡ j + 1 ⌝ }
+{
+    j + 1 - size_of(room, j)
+}
+
+// Where the last token stands once record j is passed, and one; `last` before that.
+fn last_of(room: &[u32], j: usize, last: usize) -> usize
+    requires { ⌜ (16384 ≤ length (now room)) × (j < 2048) ⌝ }
+    ensures { λ r. ⌜ (kindOf (front (now (room .entry))) j < 256 → r ≡ j + 1) × (256 ≤ kindOf (front (now (room .entry))) j → r ≡ last) ⌝ }
+{
+    if kind_of(room, j) < 256 {
+        return j + 1;
     }
+    last
+}
+
+// Writes the spot words of records a up to e, which are of the run from `start` on at the shift w, the last token being before `before`; where
+// it stands then, and one.
+fn put_run(
+    room: &mut [u32],
+    n: usize,
+    a: usize,
+    e: usize,
+    start: usize,
+    before: usize,
+    w: u32,
+) -> usize
+    requires { ⌜ (16384 ≤ length (now room)) × Shape (front (now room)) n × (a ≤ e) × (e ≤ n) ⌝ }
+    ensures { λ last. ⌜ Filled (now (room .entry)) (now (room .exit)) n a e start before w last ⌝ }
+{
+    let mut last = before;
+    let mut j = a;
+    while j < e {
+        last = last_of(room, j, last);
+        let v = word_of(first_of(room, n, j), start, last, w);
+        room[SPOTS + j] = v;
+        j += 1;
+    }
+    last
 }
 
 // ---- all spots, forward
 
-// The spot word of record j.
-fn spot(old: &[u32], room: &[u32], m: usize, n: usize, j: usize, from: usize) -> u32
-    requires { ⌜ 16384 ≤ length (now room) ⌝ }
-    requires { ⌜ Shape (front (now room)) n ⌝ }
-    requires { ⌜ OldRow (now old) m ⌝ }
-    requires { ⌜ j < n ⌝ }
-    requires { ⌜ Spots (now old) (front (now room)) m (now room) j ⌝ }
-    requires { ⌜ from ≤ m ⌝ }
-    ensures { λ r. ⌜ Told (now (old .entry)) (front (now (room .entry))) m j r ⌝ }
+// A walk over the records: `at` is next; the last token stands before `last` and has the word `shift`; its run starts at `start`; the next old
+// token is sought from the old record `from` on.
+pub struct Run {
+    pub at: usize,
+    pub last: usize,
+    pub shift: u32,
+    pub start: usize,
+    pub from: usize,
+}
+
+// The next record, which is not of the run before it: a token, which starts a run where it stands in the old tree, or a node.
+fn pass(old: &[u32], room: &mut [u32], m: usize, n: usize, r: Run) -> Run
+    requires { ⌜
+        (16384 ≤ length (now room))
+        × (r .at < n)
+        × OldRow (now old) m
+        × ((lent : List ℕ) × Shape (front lent) n × Walking (now old) lent m n (now room) r)
+        ⌝ }
+    ensures { λ s.
+        ⌜ ((lent : List ℕ) → Shape (front lent) n → Walking (now (old .entry)) lent m n (now (room .entry)) r → Started (now (old .entry)) lent m n (now (room .exit)) s) × (s .at ≡ r .at + 1) ⌝ }
 {
+    let j = r.at;
     if kind_of(room, j) < 256 {
-        token_spot(old, room, m, n, j, from)
+        let w = token_spot(old, room, m, n, j, r.from);
+        room[SPOTS + j] = w;
+        Run {
+            at: j + 1,
+            last: j + 1,
+            shift: w,
+            start: run_start(old, room, m, j, w),
+            from: r.from,
+        }
     } else {
-        node_spot(old, room, m, n, j)
+        let v = word_of(first_of(room, n, j), j + 1, r.last, r.shift);
+        room[SPOTS + j] = v;
+        Run {
+            at: j + 1,
+            last: r.last,
+            shift: r.shift,
+            start: j + 1,
+            from: r.from,
+        }
     }
 }
 
-// Where the next search starts: at the old record of record j where its spot word w has one, else where this one started.
-fn after(w: u32, j: usize, from: usize) -> usize
-    requires { ⌜ (j < 2048) × (2 ≤ w → 2050 ≤ j + w) ⌝ }
-    ensures { λ r. ⌜ (w < 2 → r ≡ from) × (2 ≤ w → r + 2050 ≡ j + w) ⌝ }
+// The smaller of two places.
+fn least(a: usize, b: usize) -> usize
+    ensures { λ r. ⌜ r ≤ b ⌝ }
 {
+    if a < b { a } else { b }
+}
+
+// The rest of the run that the last token is of.
+fn fill(old: &[u32], room: &mut [u32], m: usize, n: usize, r: Run) -> Run
+    requires { ⌜ (16384 ≤ length (now room)) × OldRow (now old) m × ((lent : List ℕ) × Shape (front lent) n × Started (now old) lent m n (now room) r) ⌝ }
+    ensures { λ s.
+        ⌜ ((lent : List ℕ) → Shape (front lent) n → Started (now (old .entry)) lent m n (now (room .entry)) r → Walking (now (old .entry)) lent m n (now (room .exit)) s) × (r .at ≤ s .at) ⌝ }
+{
+    let w = r.shift;
     if w < 2 {
-        return from;
+        return r;
     }
-    j + tree::wide(w) - SHIFT
+    let j = r.at;
+    let k = j + tree::wide(w) - SHIFT;
+    let e = run_end(old, room, m, n, j, k);
+    let last = put_run(room, n, j, e, r.start, r.last, w);
+    Run {
+        at: e,
+        last: last,
+        shift: w,
+        start: r.start,
+        from: least(e + tree::wide(w) - SHIFT, m),
+    }
 }
 
 // Writes the spot words of the n records.
@@ -272,13 +328,16 @@ fn spots(old: &[u32], room: &mut [u32], m: usize, n: usize)
     requires { ⌜ OldRow (now old) m ⌝ }
     ensures { λ _. ⌜ Judging (now (old .entry)) (now (room .entry)) m (now (room .exit)) n ⌝ }
 {
-    let mut from: usize = 0;
-    let mut j: usize = 0;
-    while j < n {
-        let w = spot(old, room, m, n, j, from);
-        room[SPOTS + j] = w;
-        from = after(w, j, from);
-        j += 1;
+    let mut r = Run {
+        at: 0,
+        last: 0,
+        shift: LOST,
+        start: 0,
+        from: 0,
+    };
+    while r.at < n {
+        let s = pass(old, room, m, n, r);
+        r = fill(old, room, m, n, s);
     }
 }
 

@@ -5,6 +5,7 @@ pub mod Copy
 pub mod Break
 pub mod Shift
 pub mod Turns
+pub mod Tokens
 pub mod Next
 pub mod Shrink
 pub mod Running

@@ -1,11 +1,12 @@
--- What is next, by the length of the next entry's run: one word is a code, three are a token of the old row, more are a piece.
+-- What is next, by the length of the next entry's run: one word is a code, three are a token of the old row, more are a piece. A token is
+-- the terminal that stands next.
 use mathlib.Core.Path.{_≡_, refl, sym, ap, _∙_, subst}
 use mathlib.Core.List.{List, [], _∷_, _++_}
 use Prim.Native.Nat.{ℕ, zero, suc, _+_, _-_, _*_, _≤_, _<_}
 use native.Mathlib.Omega.{arith}
 use lib.ListN.{length, getD}
 use Rattle.definitions.specs.Sheet.{T}
-use Rattle.definitions.specs.Tree.{Tok, mk, Row, ∅, tok, nod, size, toks, NRow, ε, ntok, nnod, erase, words}
+use Rattle.definitions.specs.Tree.{Tok, mk, Row, ∅, tok, nod, size, toks, yield, look, NRow, ε, ntok, nnod, erase, words}
 use Rattle.definitions.specs.Reading.{Tree, leaf, node, cons, Stack}
 use Rattle.machine.specs.Room.{Holds}
 use Rattle.machine.specs.Steps.{Stands, token, end}
@@ -23,11 +24,14 @@ token-words ε k i e = let z : _≡_ {A = ℕ} 0 1 = cc in absurd (omega arith)
 token-words (ntok a b f) k i e = (cc, cc)
 token-words (nnod q j c f) k i e = let z : _≡_ {A = ℕ} 0 1 = cc in absurd (omega arith)
 
+pub stands-look : {f : Row} {k i : ℕ} → Stands f k i → k ≡ look 0 (yield f)
+stands-look (token h) = refl
+stands-look end = refl
+
 pub record Faces (t old put r : List ℕ) (n m e : ℕ) (σ : Stack) (f : Row) : Type 0 where
   pub fits : Fits old put e
-  pub code : length (runOf old put e) ≡ 1 → Stands f (getD (runOf old put e) 0 0) 0
-  pub token : length (runOf old put e) ≡ 3 → Stands f (getD (runOf old put e) 0 0) (getD (runOf old put e) 1 0)
-  pub piece : (length (runOf old put e) ≡ 1 → ⊥) → (length (runOf old put e) ≡ 3 → ⊥) → Facing t old put (runOf old put e) r n m e σ f
+  pub token : length (runOf old put e) ≤ 3 → (i : ℕ) → (length (runOf old put e) ≡ 3 → i ≡ getD (runOf old put e) 1 0) × (length (runOf old put e) ≡ 1 → i ≡ 0) → (0 < look 0 (yield f)) × Stands f (look 0 (yield f)) i
+  pub piece : 3 < length (runOf old put e) → Facing t old put (runOf old put e) r n m e σ f
 
 pub nothing-next : {t old put r : List ℕ} {m : ℕ} {f : Row} (i : ℕ) → m ≡ 0 → Listed t old put r m f → Stands f 0 i
 nothing-next {t} {old} {put} {r} {m} {f} i e L = rw (nothing (subst (λ (j : ℕ). Pending t old put r j f) e (L .pending))) (end {i = i})
@@ -42,9 +46,8 @@ faces {t} {old} {put} {r} {n} {m} {σ} {f} H h more L =
         let w = run-code old put k l in
         record {
           fits = code-fits old put k l;
-          code = λ c. rw w (token (from-codes (T t) put (L .codes) k l .above));
-          token = λ c. absurd (omega (arith, ap length w));
-          piece = λ a b. absurd (a (ap length w));
+          token = λ c i z. let h = from-codes (T t) put (L .codes) k l .above in (h, rw (z .1 (ap length w)) (token h));
+          piece = λ a. absurd (omega (arith, ap length w));
         }
     by v f (old-piece (leaf (mk k i)) l P s q) L =
         let w = run-piece put H P l in
@@ -52,18 +55,16 @@ faces {t} {old} {put} {r} {n} {m} {σ} {f} H h more L =
         let n = ap length w ∙ length-words (P .row) ∙ ap (λ (g : Row). 3 * size g) (P .is) in
         record {
           fits = piece-fits put H P l;
-          code = λ c. absurd (omega arith);
-          token = λ c. rw (w, x .0, x .1) (token (root-real P .0));
-          piece = λ a b. absurd (b (n ∙ omega arith));
+          token = λ c j z. let y : j ≡ i = z .0 (n ∙ omega arith) ∙ ap (λ (l : List ℕ). getD l 1 0) w ∙ x .1 in (root-real P .0, rw y (token (root-real P .0)));
+          piece = λ a. absurd (omega arith);
         }
     by v f (old-piece {f = g} (node p c) l P s q) L =
         let w = run-piece put H P l in
         let n = ap length w ∙ length-words (P .row) ∙ ap (λ (g : Row). 3 * size g) (P .is) in
         record {
           fits = piece-fits put H P l;
-          code = λ e. absurd (omega arith);
           token = λ e. absurd (omega (arith, some c (omega (arith, s))));
-          piece = λ a b. record {
+          piece = λ a. record {
             prod = p;
             kids = c;
             rest = g;

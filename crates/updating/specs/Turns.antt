@@ -22,9 +22,6 @@ use Rattle.theory.specs.Records.Flat.{flat}
 use Rattle.machine.specs.Room.{statesAt, statesEnd, States, Holds}
 use Rattle.machine.specs.Laws.{states-stand}
 use Rattle.machine.specs.Back.{Landed}
-use Rattle.machine.specs.Steps.{Stands, Took, Did}
-use Rattle.machine.specs.declared.Step.{Step}
-use Rattle.machine.specs.declared.Step.the-variants as Step
 use Rattle.tree.specs.Shaped as Rows
 use Rattle.tree.specs.Rows.{length-words}
 use Rattle.list.specs.Pieces.{Piece}
@@ -101,14 +98,6 @@ Does t old put r n m σ f o Code.Taken = (o ≡ stop (taken σ)) × Holds r n σ
 Does t old put r n m σ f o Code.NoAction = (o ≡ stop (refused 7 (shifted σ))) × Listed t old put r m f
 Does t old put r n m σ f o Code.NoRoom = o ≡ stop (refused 8 0)
 Does t old put r n m σ f o Code.NoGoto = o ≡ stop (refused 10 0)
-
-abbrev pub turnOf : Step → Turn
-turnOf Step.Shifted = Code.Shifted
-turnOf Step.Reduced = Code.Reduced
-turnOf Step.Taken = Code.Taken
-turnOf Step.NoAction = Code.NoAction
-turnOf Step.NoRoom = Code.NoRoom
-turnOf Step.NoGoto = Code.NoGoto
 
 -- ---- a reduction
 abbrev pub Reduces : List ℕ → ℕ → Row → Reading.Turn → Turn → Type 0
@@ -207,8 +196,8 @@ module _ (G : Table) (n p : ℕ) (σ : Stack) (f : Row) where
   pub reduce-lands : {r : List ℕ} → n < 2048 → Landed r n f (Reading.settle G p f (Reading.pop (length (G .rhs p)) σ ∅)) → Landed r n f (Reading.reduce G (2048 - n) p σ f)
   reduce-lands h L = record { stack = L .stack; is = reduce-some h ∙ L .is; holds = L .holds }
 
--- ---- a turn of the machine that reads afresh
-behind : {t old put r : List ℕ} {m : ℕ} {f : Row} {x : Tok} {g : Row} → Listed t old put r m f → f ≡ tok x g → (0 < m) × Listed t old put r (m - 1) g
+-- ---- a token next: the list behind it
+pub behind : {t old put r : List ℕ} {m : ℕ} {f : Row} {x : Tok} {g : Row} → Listed t old put r m f → f ≡ tok x g → (0 < m) × Listed t old put r (m - 1) g
 behind {t} {old} {put} {r} {m} {f} {x} {g} L e = by m f (L .pending) e (L .small)
   where
     made : (m : ℕ) {h : Row} → Pending t old put r m h → h ≡ g → toks g ≤ 2048 → (0 < suc m) × Listed t old put r (suc m - 1) g
@@ -222,53 +211,45 @@ behind {t} {old} {put} {r} {m} {f} {x} {g} L e = by m f (L .pending) e (L .small
     by (suc m) f (piece v (node q c) w i P h k) e l = let z : _≡_ {A = ℕ} 0 1 = cc in absurd (omega arith)
     by (suc m) f (code c q i k) e l = made m k (cc) (omega (arith, ap toks e))
 
-pub plain-does : {t old put r : List ℕ} (r′ : List ℕ) {m : ℕ} {f : Row} (n : ℕ) (σ : Stack) (k i : ℕ) (o : Reading.Turn) → Listed t old put r m f → drop statesEnd r′ ≡ drop statesEnd r
-    → (s : Step) → Did r′ n σ f k i o s → Does t old put r′ n m σ f o (turnOf s)
-plain-does r′ n σ k i o L d Step.Shifted D =
-    let w = D .0 in
-    let b = behind L (w .next) in
-    (record { stack = _; rest = w .rest; is = w .is; holds = w .holds; listed = list-stands d (b .1) }, b .0)
-plain-does r′ n σ k i o L d Step.Reduced D = record { stack = D .0 .stack; rest = _; is = D .0 .is; holds = D .0 .holds; listed = list-stands d L }
-plain-does r′ n σ k i o L d Step.Taken D = D
-plain-does r′ n σ k i o L d Step.NoAction D = (D, list-stands d L)
-plain-does r′ n σ k i o L d Step.NoRoom D = D
-plain-does r′ n σ k i o L d Step.NoGoto D = D
+-- ---- a reduction, whatever is next
+turn-reduces : (G : Table) (r p : ℕ) (σ : Stack) (f : Row) → G .act (top σ) (look 0 (yield f)) ≡ red p → turn G r σ f ≡ Reading.reduce G r p σ f
+turn-reduces G r p σ ∅ e = ap (λ (a : Act). Reading.plain G r a σ ∅) e
+turn-reduces G r p σ (tok x f) e = ap (λ (a : Act). Reading.plain G r a σ (tok x f)) e
+turn-reduces G r p σ (nod q c f) e = ap (λ (a : Act). Moves.piece G r a σ q c f) e
 
--- ---- a piece next, by the action on its first token
+pub reduces : {t old put r : List ℕ} {m : ℕ} {f : Row} {k : ℕ} {x : Act} (n p : ℕ) (σ : Stack) (r′ : List ℕ) (o : Turn) → Listed t old put r m f → drop statesEnd r′ ≡ drop statesEnd r → x ≡ tableOf t .act (top σ) k
+    → k ≡ look 0 (yield f) → x ≡ red p → Reduces r′ n f (Reading.reduce (tableOf t) (2048 - n) p σ f) o → Does t old put r′ n m σ f (turn (tableOf t) (2048 - n) σ f) o
+reduces {t} {old} {put} {r} {m} {f} n p σ r′ o L d e l z D =
+    let w = turn-reduces (tableOf t) (2048 - n) p σ f (ap (tableOf t .act (top σ)) (sym l) ∙ sym e ∙ z) in
+    by o (subst (λ (y : Reading.Turn). Reduces r′ n f y o) (sym w) D)
+  where
+    by : (o : Turn) → Reduces r′ n f (turn (tableOf t) (2048 - n) σ f) o → Does t old put r′ n m σ f (turn (tableOf t) (2048 - n) σ f) o
+    by Code.Reduced D = record { stack = D .stack; rest = f; is = D .is; holds = D .holds; listed = list-stands d L }
+    by Code.NoRoom D = D
+    by Code.NoGoto D = D
+    by Code.Shifted D = absurd D
+    by (Code.Whole h b) D = absurd D
+    by (Code.Left j) D = absurd D
+    by Code.Taken D = absurd D
+    by Code.NoAction D = absurd D
+
+-- ---- a piece next, where the action on its first token is no reduction
+pub data Other : Act → Type 0 where
+  error : Other err
+  accept : Other acc
+  shift : {s : ℕ} → Other (sh s)
+
+pub other-not : {x : Act} → Other x → (p : ℕ) → x ≡ red p → ⊥
+other-not error p e = let z : _≡_ {A = ℕ} 0 1 = cc in omega arith
+other-not accept p e = let z : _≡_ {A = ℕ} 0 1 = cc in omega arith
+other-not shift p e = let z : _≡_ {A = ℕ} 0 1 = cc in omega arith
+
 module _ {t old put run r : List ℕ} {n m v : ℕ} {σ : Stack} {f : Row} (F : Facing t old put run r n m v σ f) where
   abbrev G : Table
   G = tableOf t
 
   abbrev over : Option ℕ
   over = G .goto (top σ) (G .lhs (F .prod))
-
-  pub reduces : {k : ℕ} {x : Act} (p : ℕ) (r′ : List ℕ) (o : Turn) → drop statesEnd r′ ≡ drop statesEnd r → x ≡ G .act (top σ) k → k ≡ look 0 (yield f) → x ≡ red p
-      → Reduces r′ n f (Reading.reduce G (2048 - n) p σ f) o → Does t old put r′ n m σ f (turn G (2048 - n) σ f) o
-  reduces {k} {x} p r′ o d e l z D =
-      let w : turn G (2048 - n) σ f ≡ Reading.reduce G (2048 - n) p σ f = is-piece ∙ ap (λ (a : Act). Moves.piece G (2048 - n) a σ (F .prod) (F .kids) (F .rest)) (by-look) ∙ ap (Reading.reduce G (2048 - n) p σ) (sym (F .is)) in
-      by o (subst (λ (y : Reading.Turn). Reduces r′ n f y o) (sym w) D)
-    where
-      is-piece : turn G (2048 - n) σ f ≡ Moves.piece G (2048 - n) (G .act (top σ) (look 0 (yield f))) σ (F .prod) (F .kids) (F .rest)
-      is-piece = rw (F .is) refl
-
-      by-look : G .act (top σ) (look 0 (yield f)) ≡ red p
-      by-look = ap (G .act (top σ)) (sym l) ∙ sym e ∙ z
-
-      by : (o : Turn) → Reduces r′ n f (turn G (2048 - n) σ f) o → Does t old put r′ n m σ f (turn G (2048 - n) σ f) o
-      by Code.Reduced D = record { stack = D .stack; rest = f; is = D .is; holds = D .holds; listed = list-stands d (F .whole) }
-      by Code.NoRoom D = D
-      by Code.NoGoto D = D
-      by Code.Shifted D = absurd D
-      by (Code.Whole h b) D = absurd D
-      by (Code.Left j) D = absurd D
-      by Code.Taken D = absurd D
-      by Code.NoAction D = absurd D
-
-  -- another action than a reduction
-  pub data Other : Act → Type 0 where
-    error : Other err
-    accept : Other acc
-    shift : {s : ℕ} → Other (sh s)
 
   pub enters : {k : ℕ} {x : Act} (r′ : List ℕ) (o : Turn) → x ≡ G .act (top σ) k → k ≡ look 0 (yield f) → Other x
       → Does t old put r′ n m σ f (Moves.enter G (2048 - n) σ (F .kids) (F .rest) over) o → Does t old put r′ n m σ f (turn G (2048 - n) σ f) o

@@ -16,12 +16,14 @@ ghost use Rattle.definitions.specs.Answers.{cleared, finished};
 ghost use Rattle.theory.specs.Records.Flat.{Word, flat, trim};
 ghost use Rattle.answers.specs.Values.{countsOf};
 ghost use Rattle.machine.specs.Room.{statesAt, statesEnd, Holds, put};
+ghost use Rattle.machine.specs.Lookups.{actIs};
 ghost use Rattle.reading.specs.Fresh.{told};
 ghost use Rattle.tree.specs.Shaped as Rows;
 ghost use Rattle.updating.specs.Records.{symK, numK, Reads};
 ghost use Rattle.updating.specs.Copy.{Rooted, Copied};
 ghost use Rattle.updating.specs.Shift.{Ripe, Shifts};
-ghost use Rattle.updating.specs.Turns.{turnOf, Reduces, Facing, Listed, Does, Above};
+ghost use Rattle.updating.specs.Turns.{Reduces, Facing, Listed, Does, Above};
+ghost use Rattle.updating.specs.Tokens.{Takes, Finishes};
 ghost use Rattle.updating.specs.Running.{Ends, counting};
 ghost use Rattle.updating.specs.Finish.{Judged, list, done, numbers, Ready};
 use answers::Answer;
@@ -29,7 +31,6 @@ use answers::Counts;
 use machine::Act;
 use machine::Goto;
 use machine::Landing;
-use machine::Step;
 
 // ---- a whole shift
 
@@ -204,17 +205,40 @@ pub enum Turn {
     NoGoto,
 }
 
-// The turn of a token or the end mark.
-fn plainly(s: Step) -> Turn
-    ensures { λ r. ⌜ r ≡ turnOf s ⌝ }
+// The turn of a token next, by its terminal and its identity, where the action on it is no reduction.
+fn take_token(room: &mut [u32], n: usize, act: Act, kind: u32, number: u32) -> Turn
+    requires { ⌜ (16384 ≤ length (now room)) × (n ≤ 2048) ⌝ }
+    ensures { λ r. ⌜ Takes (now (room .entry)) (now (room .exit)) n (actIs act) kind number r ⌝ }
+    ensures { λ r. ⌜ drop statesEnd (now (room .exit)) ≡ drop statesEnd (now (room .entry)) ⌝ }
 {
-    match s {
-        Step::Shifted => Turn::Shifted,
-        Step::Reduced => Turn::Reduced,
-        Step::Taken => Turn::Taken,
-        Step::NoAction => Turn::NoAction,
-        Step::NoRoom => Turn::NoRoom,
-        Step::NoGoto => Turn::NoGoto,
+    match act {
+        Act::Shift(to) => {
+            if n >= machine::NODES {
+                return Turn::NoRoom;
+            }
+            machine::shift(room, n, to, kind, number);
+            Turn::Shifted
+        }
+        Act::Accept => Turn::Taken,
+        Act::Error => Turn::NoAction,
+        Act::Reduce(_) => Turn::NoAction,
+    }
+}
+
+// The turn of the end mark, where the action on it is no reduction.
+fn take_end(n: usize, act: Act) -> Turn
+    ensures { λ r. ⌜ ((room : List ℕ) → Finishes room n (actIs act) r) ⌝ }
+{
+    match act {
+        Act::Shift(_) => {
+            if n >= machine::NODES {
+                return Turn::NoRoom;
+            }
+            Turn::NoGoto
+        }
+        Act::Accept => Turn::Taken,
+        Act::Error => Turn::NoAction,
+        Act::Reduce(_) => Turn::NoAction,
     }
 }
 
@@ -275,44 +299,15 @@ fn enter(
     }
 }
 
-// The turn of the piece whose root is record v, next in the list of m words: the action on its first token, `look`, says whether it is reduced.
-fn face(
-    t: &[u8],
-    old: &[u32],
-    run: &[u32],
-    room: &mut [u32],
-    n: usize,
-    m: usize,
-    v: usize,
-    look: u32,
-) -> Turn
-    requires { ⌜
-        Layout (now t)
-        × (16384 ≤ length (now room))
-        × (n ≤ 2048)
-        × Rows.Holds (now old)
-        × ((put : List ℕ) × (σ : Stack) × (f : Row) × Facing (now t) (now old) put (now run) (now room) n m v σ f)
-        ⌝ }
-    ensures { λ r.
-        ⌜
-        ((put : List ℕ) (σ : Stack) (f : Row)
-        → Facing (now (t .entry)) (now (old .entry)) put (now (run .entry)) (now (room .entry)) n m v σ f
-        → look ≡ Tree.look 0 (yield f)
-        → Does (now (t .entry)) (now (old .entry)) put (now (room .exit)) n m σ f (turn (tableOf (now (t .entry))) (2048 - n) σ f) r)
-        ⌝ }
-    ensures { λ r. ⌜ Above (now (room .entry)) (now (room .exit)) ⌝ }
+// The identity of the token of a run: its number in the old tree, 0 for an inserted one.
+fn identity_of(run: &[u32]) -> u32
+    ensures { λ r. ⌜ (length (now (run .entry)) ≡ 3 → r ≡ getD (now (run .entry)) 1 0) × (length (now (run .entry)) ≡ 1 → r ≡ 0) ⌝ }
 {
-    let s = machine::top(room, n);
-    let act = machine::act_of(t, s, tree::wide(look));
-    match act {
-        Act::Reduce(p) => reduce(t, room, n, p as usize),
-        Act::Error => enter(t, old, run, room, n, m, v, s),
-        Act::Accept => enter(t, old, run, room, n, m, v, s),
-        Act::Shift(_) => enter(t, old, run, room, n, m, v, s),
-    }
+    if run.len() == 3 { run[1] } else { 0 }
 }
 
-// A turn over n nodes and a list of m words, where the terminal `look` stands next.
+// A turn over n nodes and a list of m words, where the terminal `look` stands next. The action on it is looked up once: a reduction is the
+// same whatever the list has next.
 fn take_turn<'a>(
     t: &[u8],
     old: &'a [u32],
@@ -339,18 +334,20 @@ fn take_turn<'a>(
         ⌝ }
     ensures { λ r. ⌜ Above (now (room .entry)) (now (room .exit)) ⌝ }
 {
+    let s = machine::top(room, n);
+    let act = machine::act_of(t, s, tree::wide(look));
+    if let Act::Reduce(p) = act {
+        return reduce(t, room, n, p as usize);
+    }
     if m == 0 {
-        return plainly(machine::plain(t, room, n, 0, 0));
+        return take_end(n, act);
     }
     let entry = list::entry_at(room, m);
     let run = list::next_run(old, put, entry);
-    if run.len() == 1 {
-        return plainly(machine::plain(t, room, n, run[0], 0));
+    if run.len() > 3 {
+        return enter(t, old, run, room, n, m, entry, s);
     }
-    if run.len() == 3 {
-        return plainly(machine::plain(t, room, n, run[0], run[1]));
-    }
-    face(t, old, run, room, n, m, entry, look)
+    take_token(room, n, act, look, identity_of(run))
 }
 
 // ---- the reading of the list

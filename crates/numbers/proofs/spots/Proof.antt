@@ -1,73 +1,59 @@
--- `numbers::spots` meets its contract. The loop's invariant is `Judging`: the words before j are told. Assumes nothing.
+-- `numbers::spots` meets its contract. The loop's invariant is `Walking`: the words before the next record are told. Assumes nothing.
 use mathlib.Core.Path.{_≡_, refl}
 use Prim.Native.Nat.{_-_, _≤_, _<_}
 use native.Mathlib.Omega.{arith}
 use lib.ListN.{length}
-use Rattle.numbers.specs.Records.{front, In, Told, in-self}
-use Rattle.numbers.specs.Spots.{Judging, judge-more, after-within, shift-low}
+use Rattle.numbers.specs.Runs.{Walking, Started}
 use borrow.Author.Needs.{needs}
 use Rattle.numbers.proofs.spots.Statement.{statement}
 use Rattle.numbers.proofs.spots.Tie as tie
 
 abbrev Inv-loop : tie.InvT-loop
-Inv-loop old room₀ m n from₀ j₀ room from j = (j ≤ n) × (from ≤ m) × Judging old room₀ m room j
+Inv-loop old room₀ m n r₀ room r = Walking old room₀ m n room r
 
 abbrev μ-loop : tie.MeasureT-loop
-μ-loop old room₀ m n from₀ j₀ room from j = n - j
+μ-loop old room₀ m n r₀ room r = n - r .at
 
-small : (c : tie.In-loop Inv-loop μ-loop) → c .before .loop .j < 2048
-small c = let f = c .before .before .before .before .pre .1 .0 .few in omega (arith, c .loop-test .taken)
-
-long : (c : tie.In-loop Inv-loop μ-loop) → 16384 ≤ length (c .before .loop .room)
-long c = omega (arith, c .before .loop .inv .2 .long, c .before .before .before .before .pre .0)
-
-self : (c : tie.In-loop Inv-loop μ-loop) → In (front (c .before .before .before .before .args .room .now)) (c .before .loop .j) (c .before .loop .j)
-self c = in-self (c .before .before .before .before .pre .1 .0) (c .loop-test .taken)
-
-told : (c : tie.After-spot Inv-loop μ-loop) → let a = c .before .before .before .before .before .before .args in Told (a .old .now) (front (a .room .now)) (a .m) (c .before .before .before .loop .j) (c .spot .result)
-told c = rw (c .before .before .before .loop .inv .2 .records) at (c .spot .ensures)
+-- behind the record that is passed
+started : (c : tie.After-pass Inv-loop μ-loop) → let a = c .before .before .before .before .before .before .before .args in Started (a .old .now) (a .room .now) (a .m) (a .n) (c .pass .last .1 .0) (c .pass .result)
+started c = c .pass .ensures .0 (c .before .before .before .before .before .before .before .args .room .now) (c .before .before .before .before .before .before .before .pre .1 .0) (c .before .before .before .before .loop .inv)
 
 loop-holds : tie.Need-loop-holds Inv-loop μ-loop
 loop-holds c =
-    (search needs, search needs, record { long = refl; records = refl; spots = record { told = λ i h. absurd (omega arith) }; rest = refl })
+    record {
+      judging = record { long = refl; records = refl; spots = record { told = λ i h. absurd (omega arith) }; rest = refl };
+      high = omega arith;
+      from = omega arith;
+      last = record { up = omega arith; token = λ h. absurd (omega arith); none = λ i a b. absurd (omega arith) };
+      some = λ h. absurd (omega arith);
+      told = λ h. absurd (omega arith);
+      stop = λ h l. absurd (omega arith);
+    }
 
-spot-requires : tie.Need-spot-requires Inv-loop μ-loop
-spot-requires c κs =
-    let s = c .before .before .before .before .before in
-    let l = c .before .before .loop .inv in
-    let J = l .2 in
-    (omega (arith, J .long, s .pre .0), (rw (J .records) (s .pre .1 .0), (s .pre .1 .1, (c .before .loop-test .taken, (rw (J .records) (J .spots), l .1)))))
+pass-requires : tie.Need-pass-requires Inv-loop μ-loop
+pass-requires c κs =
+    let s = c .before .before .before .before .before .before in
+    let W = c .before .before .before .loop .inv in
+    (omega (arith, W .judging .long, s .pre .0), c .before .if1 .taken, s .pre .1 .1, (s .args .room .now, s .pre .1 .0, W))
 
-add-room : tie.Need-add-room Inv-loop μ-loop
-add-room c = omega (arith, small (c .before .before))
-
-mul-room : tie.Need-mul-room Inv-loop μ-loop
-mul-room c = search needs
-
-slice-write-room : tie.Need-slice-write-room Inv-loop μ-loop
-slice-write-room c = omega (arith, small (c .before .before), long (c .before .before))
-
-after-requires : tie.Need-after-requires Inv-loop μ-loop
-after-requires c κs = (small (c .before .before), λ h. shift-low (told c) (self (c .before .before)) h)
-
-add-j : tie.Need-add-j Inv-loop μ-loop
-add-j c = omega (arith, small (c .before .before .before))
+fill-requires : tie.Need-fill-requires Inv-loop μ-loop
+fill-requires c κs =
+    let s = c .before .before .before .before .before .before .before .before .before .before in
+    let K = started (c .before .before .before) in
+    (omega (arith, K .judging .long, s .pre .0), s .pre .1 .1, (s .args .room .now, s .pre .1 .0, K))
 
 loop-less : tie.Need-loop-less Inv-loop μ-loop
-loop-less c = omega (arith, c .before .before .before .loop-test .taken)
+loop-less c = omega (arith, c .before .before .fill .ensures .1, c .before .before .before .before .before .before .pass .ensures .1, c .before .before .before .before .before .before .before .before .if1 .taken)
 
 loop-again : tie.Need-loop-again Inv-loop μ-loop
-loop-again c =
-    let l = c .before .before .before .before .loop .inv in
-    let t = told (c .before) in
-    (omega (arith, c .before .before .before .loop-test .taken), after-within t (self (c .before .before .before)) (c .after .ensures) (l .1), judge-more (l .2) (omega (arith, small (c .before .before .before), long (c .before .before .before))) (small (c .before .before .before)) t)
+loop-again c = c .before .before .fill .ensures .0 (c .before .before .before .before .before .before .before .before .before .before .before .before .before .args .room .now) (c .before .before .before .before .before .before .before .before .before .before .before .before .before .pre .1 .0) (started (c .before .before .before .before .before .before))
 
 same-length : tie.Need-same-length Inv-loop μ-loop
-same-length c = c .before .loop .inv .2 .long
+same-length c = c .before .before .loop .inv .judging .long
 
 returns : tie.Need-returns Inv-loop μ-loop
 returns c =
-    let l = c .before .loop .inv in let z : c .before .loop .j ≡ c .before .before .before .before .args .n = omega (arith, c .loop-test .left, l .0) in rw (← z) (l .2)
+    let W = c .before .before .loop .inv in let z : c .before .before .loop .r .at ≡ c .before .before .before .before .before .args .n = omega (arith, c .if1 .left, W .high) in rw (← z) (W .judging)
 
 pub spots-spec : {M : Type 1} → statement M
 spots-spec =
@@ -76,12 +62,8 @@ spots-spec =
     Inv-loop
     μ-loop
     loop-holds
-    spot-requires
-    add-room
-    mul-room
-    slice-write-room
-    after-requires
-    add-j
+    pass-requires
+    fill-requires
     loop-less
     loop-again
     same-length
