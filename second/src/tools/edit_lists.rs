@@ -3,7 +3,7 @@
 use crate::sheet::Sheet;
 use crate::tools::case::MOST_CODES;
 use crate::tools::random::Random;
-use crate::tools::texts::{damage_code, damage_text, Derivations, Wanted};
+use crate::tools::texts::{damage_text, wrong_code, Derivations, Wanted};
 use crate::tree::OldTree;
 
 #[derive(Clone, PartialEq, Eq, Debug)]
@@ -29,7 +29,10 @@ pub struct EditMaker<'a> {
 impl EditMaker<'_> {
     /// A list of edits within the rules.
     pub fn edits(&self, random: &mut Random) -> Vec<MadeEdit> {
-        let mut edits = match random.below(20) {
+        let large = self.old.nodes.len() > 1_500;
+        let mut edits = match random.below(21) {
+            kind if large && kind % 2 == 1 => self.near_the_limit(random),
+            20 => self.near_the_limit(random),
             0..=1 => Vec::new(),
             2..=8 => self.pieces_derived_anew(random),
             9..=10 => vec![self.piece_copied(random)],
@@ -104,6 +107,31 @@ impl EditMaker<'_> {
         let range = self.old.token_range(random.below(self.old.nodes.len()));
         let place = if random.chance(50) { range.start } else { range.end };
         MadeEdit { place, removed: 0, put: self.text()[range].to_vec() }
+    }
+
+    /// A piece's tokens put in so often beside it that about 2,048 nodes result; at times something
+    /// wrong behind, so that the reading ends while much is held.
+    fn near_the_limit(&self, random: &mut Random) -> Vec<MadeEdit> {
+        let tries: Vec<usize> = (0..4).map(|_| self.any_node(random)).collect();
+        let node = tries.into_iter().min_by_key(|&node| self.old.nodes[node].size).unwrap_or(0);
+        let range = self.old.token_range(node);
+        let tokens = self.text()[range.clone()].to_vec();
+        let wanted = (2_046 + random.below(8)).saturating_sub(self.old.nodes.len());
+        let least = if random.chance(50) { 2 } else { self.old.nodes[node].size as usize };
+        let times = (wanted / least.max(1)).min(1_500 / tokens.len().max(1));
+        let place = if random.chance(50) { range.start } else { range.end };
+        let mut edits = vec![MadeEdit { place, removed: 0, put: tokens.repeat(times) }];
+        if random.chance(40) {
+            let place = random.between(place, self.tokens());
+            let code = random.below(self.sheet.terminals).max(1) as u32;
+            let removed = random.below(2).min(self.tokens() - place);
+            edits.push(MadeEdit {
+                place,
+                removed,
+                put: vec![code; self.sheet.terminals.min(2) - 1],
+            });
+        }
+        edits
     }
 
     fn piece_removed(&self, random: &mut Random) -> Vec<MadeEdit> {
@@ -212,7 +240,14 @@ pub fn damage_edits(edits: &mut EditWords, terminals: usize, tokens: usize, rand
         8 => {
             edits.put.pop();
         }
-        9 => damage_code(&mut edits.put, terminals, random),
+        9 => {
+            if edits.put.is_empty() {
+                edits.words.extend([tokens, 0, 1]);
+                edits.put.push(1);
+            }
+            let at = random.below(edits.put.len());
+            edits.put[at] = if random.chance(40) { 0 } else { wrong_code(terminals, random) };
+        }
         _ => put_in_too_many(edits, tokens, random),
     }
 }

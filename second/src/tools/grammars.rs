@@ -50,6 +50,7 @@ pub fn vary_plan(plan: &mut Plan, random: &mut Random) {
 fn random_grammar(random: &mut Random) -> Grammar {
     let terminals = match random.below(20) {
         0 => 1,
+        1 if random.chance(25) => 64,
         1 => random.between(7, 64),
         _ => random.between(2, 6),
     };
@@ -153,7 +154,7 @@ impl Maker<'_> {
 }
 
 /// Whether every nonterminal derives some string of terminals.
-fn derives_all(grammar: &Grammar) -> bool {
+pub fn derives_all(grammar: &Grammar) -> bool {
     let mut derives = vec![false; grammar.nonterminals];
     let right = |rule: &Production, derives: &[bool]| {
         rule.right_side().iter().all(|&s| s < NONTERMINAL || derives[(s - NONTERMINAL) as usize])

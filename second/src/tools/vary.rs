@@ -44,7 +44,7 @@ pub fn add_unled_item(plan: &mut Plan, random: &mut Random) {
 
 /// Adds lookaheads to an item and to all that conditions 2 and 3 ask for; false where production 0
 /// would get other lookaheads than the end mark, or a transition is missing.
-fn add(plan: &mut Plan, first: &First, state: usize, item: (u8, u8), set: TerminalSet) -> bool {
+pub fn add(plan: &mut Plan, first: &First, state: usize, item: (u8, u8), set: TerminalSet) -> bool {
     let mut open = vec![(state, item, set)];
     while let Some((state, item, set)) = open.pop() {
         if item.0 == 0 && set != TerminalSet::one(END) {
@@ -137,6 +137,25 @@ pub fn copy_without_item(plan: &mut Plan, random: &mut Random) {
     let mut copy = plan.states[number].clone();
     copy.items.remove(&item);
     plan.states.push(copy);
+}
+
+/// Takes one lookahead from an item with dot 0 and more than one of them.
+pub fn drop_lookahead(plan: &mut Plan, random: &mut Random) {
+    let many = |(item, set): &(&(u8, u8), &TerminalSet)| item.1 == 0 && set.0.count_ones() > 1;
+    let states = plan.states.iter().enumerate();
+    let items: Vec<(usize, (u8, u8))> = states
+        .flat_map(|(number, state)| {
+            state.items.iter().filter(many).map(move |(&item, _)| (number, item))
+        })
+        .collect();
+    if items.is_empty() {
+        return;
+    }
+    let (number, item) = *random.pick(&items);
+    if let Some(set) = plan.states[number].items.get_mut(&item) {
+        let held: Vec<u8> = set.terminals().collect();
+        set.0 &= !TerminalSet::one(*random.pick(&held)).0;
+    }
 }
 
 /// Copies state 0 behind the others, where nothing leads to it.
