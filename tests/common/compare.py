@@ -10,9 +10,10 @@ from shrink import smallest
 
 library, other = judge, [second, "judge"]
 batch = 2000
-kinds = {"T": "table", "R": "reading", "N": "reading, repeated", "U": "update", "V": "update, repeated", "L": "reading list"}
-# the numbers that each kind answers; 10 never arises under the conditions, and a reading list is lent nothing to write or to read
-numbers = {"T": "0 2 3 4", "R": "0 1 2 3 4 6 7 8 9", "N": "0 1 2 3 4 6 7 8 9", "U": "0 1 2 3 4 5 6 7 8 9", "V": "0 1 2 3 4 5 6 7 8 9", "L": "list 2 3 4 5 6"}
+kinds = {"T": "table", "R": "reading", "U": "update", "L": "reading list"}
+once = {"N": "R", "V": "U"}
+# the numbers that each kind answers; 10 never arises under the conditions, and a reading list is made and not read
+numbers = {"T": "0 2 3 4", "R": "0 1 2 3 4 6 7 8 9", "U": "0 1 2 3 4 5 6 7 8 9", "L": "list 2 3 4 5 6"}
 
 
 def made(seed, count):
@@ -65,7 +66,8 @@ class Covered:
 
     def add(self, cases, told):
         for case, answer in zip(cases, told):
-            key = chr(case[0]), answer.split(None, 1)[0]
+            kind = chr(case[0])
+            key = once.get(kind, kind), answer.split(None, 1)[0]
             self.met[key] = self.met.get(key, 0) + 1
 
     def spread(self, given):
@@ -80,7 +82,12 @@ class Covered:
         gone = [f"{kinds[kind]}: {number}" for kind, number in wanted if not self.met.get((kind, number))]
         return gone + [name for name, count in self.shown.items() if not count]
 
+    def rarest(self, most):
+        """The things met least, with their counts."""
+        return [f"{name} ({count})" for name, count in sorted(self.shown.items(), key=lambda pair: pair[1])[:most]]
+
     def table(self):
+        """A line for each kind of case: how often each number was answered."""
         heads = ["0", "1", "2", "3", "4", "5", "6", "7", "8", "9", "list"]
         rows = [f"{'':18}" + "".join(f"{head:>8}" for head in heads)]
         for kind, name in kinds.items():

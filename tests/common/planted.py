@@ -5,6 +5,7 @@ FAULTS = [
     # ---- buffers (1), layout and range (2)
     ("the tree to write may be one word short", "answer.rs", "tree.len() < TREE_WORDS ||", "tree.len() < TREE_WORDS - 1 ||"),
     ("the whole room is zeroed", "answer.rs", "room[..ROOM_WORDS].fill(0);", "room.fill(0);"),
+    ("N may be 1", "sheet.rs", "rest.count(2, 64)?", "rest.count(1, 64)?"),
     ("201 states", "sheet.rs", "let states = rest.count(2, 200)?;", "let states = rest.count(2, 201)?;"),
     ("2,401 items", "sheet.rs", "const MOST_ITEMS: usize = 2400;", "const MOST_ITEMS: usize = 2401;"),
     ("unused symbols are not looked at", "sheet.rs", "unused.iter().any(|&symbol| symbol != 0)", "unused.len() > 8"),
@@ -24,6 +25,8 @@ FAULTS = [
      "!sheet.lookaheads(target, item.production, item.dot + 1).is_empty()"),
     ("condition 4: one lookahead is enough", "conditions.rs", "item.set.terminals().all(", "item.set.terminals().any("),
     ("condition 5: default reductions", "conditions.rs", "complete[production as usize].holds(terminal)", "!complete[production as usize].is_empty()"),
+    ("condition 5: accept on any terminal", "conditions.rs", "terminal == END && !complete[0]", "!complete[0]"),
+    ("condition 6: a transition on any symbol", "conditions.rs", ".after(before) == Some(symbol)", ".after(before).is_some()"),
     ("condition 6: a transition from anywhere", "conditions.rs", "&& !sheet.lookaheads(state, item.production, before).is_empty()", "&& state < 200"),
     ("condition 7 is not tested", "conditions.rs", "items.iter().all(|item| begins(item) ||", "items.iter().all(|item| item.dot == 0 || begins(item) ||"),
     # ---- old trees (5)
@@ -36,6 +39,8 @@ FAULTS = [
     ("first number 0", "afresh.rs", "|| first == 0 {", "{"),
     ("2,049 codes", "afresh.rs", "codes.len() > MOST_TOKENS ||", "codes.len() > MOST_TOKENS + 1 ||"),
     ("two edits at one place are refused", "edits.rs", "if place < end ||", "if (place <= end && !edits.is_empty()) ||"),
+    ("edits may overlap", "edits.rs", "if place < end ||", "if place + gone < end ||"),
+    ("place and removals wrap", "edits.rs", "place + gone > old_tokens as u64", "(place + gone) as u32 as u64 > old_tokens as u64"),
     ("codes may be left over", "edits.rs", "(used == put.len() as u64 &&", "(used <= put.len() as u64 &&"),
     ("2,049 tokens result", "edits.rs", "result <= MOST_TOKENS as u64)", "result <= MOST_TOKENS as u64 + 1)"),
     ("a part of a record is refused before the old tree", "update.rs", ".ok_or(Refusal::from(5))?",
@@ -55,6 +60,7 @@ FAULTS = [
     ("a left-break is not counted", "update.rs", "machine.counts.left_breaks += 1;", "machine.counts.left_breaks += 0;"),
     ("each node of a piece without tokens is a right-break", "machine.rs", "self.counts.right_breaks += 1;",
      "self.counts.right_breaks += if top.tokens == 0 { top.size } else { 1 };"),
+    ("a piece without tokens is broken like any other", "machine.rs", "if top.tokens == 0 {", "if top.tokens == 0 && top.size < 3 {"),
     # ---- numbers (9)
     ("the next number is one too high", "numbers.rs", "checked_add(added as u32)?", "checked_add(added as u32 + 1)?"),
     ("a kept piece is numbered anew", "numbers.rs", "*slot = Some(number);", "*slot = Some(number).filter(|_| new[node].size < 9);"),

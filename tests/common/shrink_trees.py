@@ -2,12 +2,12 @@
 
 
 def nodes_of(sheet, row):
-    """For each record of a well-formed tree its left side or terminal and its first record; None for any other row."""
+    """For each record of a tree by its kinds, whatever its sizes: its terminal or left side, and its first record; None for other rows."""
     if sheet is None or len(row) < 2 or len(row) < 2 + 3 * row[0] or not row[0]:
         return None
     prods, roots, found = sheet[4], [], []
     for at in range(row[0]):
-        kind, _, size = row[2 + 3 * at : 5 + 3 * at]
+        kind = row[2 + 3 * at]
         if kind < 256:
             symbol, first = kind, at
         else:
@@ -19,8 +19,6 @@ def nodes_of(sheet, row):
                 return None
             symbol, first = 128 + left, found[roots[below]][1] if symbols else at
             del roots[below:]
-        if size != at + 1 - first:
-            return None
         roots.append(at)
         found.append((symbol, first))
     return found if len(roots) == 1 else None

@@ -31,7 +31,8 @@ impl EditMaker<'_> {
     pub fn edits(&self, random: &mut Random) -> Vec<MadeEdit> {
         let large = self.old.nodes.len() > 1_500;
         let mut edits = match random.below(21) {
-            kind if large && kind % 2 == 1 => self.near_the_limit(random),
+            kind if large && kind % 4 == 1 => self.near_the_limit(random),
+            kind if large && kind % 4 == 3 => self.before_and_behind(random),
             20 => self.near_the_limit(random),
             0..=1 => Vec::new(),
             2..=8 => self.pieces_derived_anew(random),
@@ -134,6 +135,22 @@ impl EditMaker<'_> {
         edits
     }
 
+    /// Some tokens before the text and a wrong one at its end: what is between stands whole, and the
+    /// reading ends while all of it is held.
+    fn before_and_behind(&self, random: &mut Random) -> Vec<MadeEdit> {
+        let text = self.text();
+        let part = random.between(1, 3).min(text.len());
+        let wanted = 2_049usize.saturating_sub(self.old.nodes.len()) + random.below(4);
+        let before = text[..part].repeat(wanted.min(100) / part.max(1) + 1);
+        let removed = random.below(2).min(text.len());
+        let code = random.below(self.sheet.terminals).max(1) as u32;
+        let put = vec![code; self.sheet.terminals.min(2) - 1];
+        vec![
+            MadeEdit { place: 0, removed: 0, put: before },
+            MadeEdit { place: text.len() - removed, removed, put },
+        ]
+    }
+
     fn piece_removed(&self, random: &mut Random) -> Vec<MadeEdit> {
         let range = self.old.token_range(random.below(self.old.nodes.len()));
         vec![MadeEdit { place: range.start, removed: range.len(), put: Vec::new() }]
@@ -226,7 +243,7 @@ pub fn damage_edits(edits: &mut EditWords, terminals: usize, tokens: usize, rand
         edits.words.extend([tokens, 0, 0]);
     }
     let record = 3 * random.below(edits.words.len() / 3);
-    match random.below(11) {
+    match random.below(12) {
         0 => edits.words.truncate(edits.words.len() - random.between(1, 2)),
         1 => edits.words.push(random.below(3) as u32),
         2 => edits.words[record] = tokens + random.between(1, 3) as u32,
@@ -237,6 +254,7 @@ pub fn damage_edits(edits: &mut EditWords, terminals: usize, tokens: usize, rand
         5 => edits.words[record + 2] = *random.pick(&[0, 1, edits.words[record + 2] + 1, u32::MAX]),
         6 => edits.words.extend([0, 0, 0]),
         7 => edits.put.push(1),
+        10 => overlap(&mut edits.words, tokens, random),
         8 => {
             edits.put.pop();
         }
@@ -249,6 +267,19 @@ pub fn damage_edits(edits: &mut EditWords, terminals: usize, tokens: usize, rand
             edits.put[at] = if random.chance(40) { 0 } else { wrong_code(terminals, random) };
         }
         _ => put_in_too_many(edits, tokens, random),
+    }
+}
+
+/// An edit that ends at or behind another's end and begins before it.
+fn overlap(words: &mut Vec<u32>, tokens: u32, random: &mut Random) {
+    let record = 3 * random.below(words.len() / 3);
+    let end = words[record] + words[record + 1];
+    if end > 0 && end <= tokens {
+        let place = end - random.between(1, end.min(3) as usize) as u32;
+        let removed = random.between((end - place) as usize, (tokens - place) as usize) as u32;
+        let last = words.len() == record + 3 || random.chance(50);
+        let at = if last { words.len() } else { record + 3 };
+        words.splice(at..at, [place, removed, 0]);
     }
 }
 

@@ -23,7 +23,7 @@ fn wrong_count(sheet: &Sheet, random: &mut Random) -> Vec<u8> {
     let Some(mut actions) = plan.actions() else {
         return Vec::new();
     };
-    match random.below(6) {
+    match random.below(7) {
         0 => {
             plan.grammar.terminals = 65;
             actions.iter_mut().for_each(|row| row.resize(65, 0));
@@ -37,7 +37,8 @@ fn wrong_count(sheet: &Sheet, random: &mut Random) -> Vec<u8> {
             }
             shorten_items(&mut plan);
         }
-        4 => {
+        4 => leave_nonterminal_0(&mut plan),
+        5 => {
             plan.grammar.productions.truncate(1);
             leave_production_0(&mut plan, &mut actions);
         }
@@ -57,6 +58,18 @@ fn shorten_items(plan: &mut Plan) {
         while state.items.len() > 1 {
             state.items.pop_last();
         }
+    }
+}
+
+/// Takes every nonterminal for nonterminal 0.
+fn leave_nonterminal_0(plan: &mut Plan) {
+    plan.grammar.nonterminals = 1;
+    for rule in &mut plan.grammar.productions {
+        rule.left = 0;
+        rule.symbols.iter_mut().for_each(|symbol| *symbol = NONTERMINAL.min(*symbol));
+    }
+    for state in &mut plan.states {
+        state.transitions.retain(|&symbol, _| symbol < NONTERMINAL);
     }
 }
 

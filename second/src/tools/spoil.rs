@@ -106,10 +106,11 @@ fn spoiled_items(mut plan: Plan, actions: Vec<ActionRow>, random: &mut Random) -
     plan.bytes_with(&actions)
 }
 
-/// Adds an item that no chain leads to, or a state that nothing leads to without one of its items, or
-/// takes a lookahead from an item with dot 0; actions are worked out anew, so that few conditions break.
+/// Adds an item that no chain leads to, or one with its dot moved to state 0, or a state that nothing
+/// leads to without one of its items; takes a lookahead from an item with dot 0; leads two symbols to
+/// one state. Actions are worked out anew, so that few conditions break.
 fn spoiled_finely(mut plan: Plan, actions: Vec<ActionRow>, random: &mut Random) -> Vec<u8> {
-    match random.below(7) {
+    match random.below(9) {
         0 => vary::add_unled_item(&mut plan, random),
         1 => {
             vary::copy_state(&mut plan, random);
@@ -117,6 +118,8 @@ fn spoiled_finely(mut plan: Plan, actions: Vec<ActionRow>, random: &mut Random) 
         }
         2..=4 => vary::copy_without_item(&mut plan, random),
         5 => vary::drop_lookahead(&mut plan, random),
+        6 => vary::add_moved_item(&mut plan, random),
+        7 => vary::join_targets(&mut plan, random),
         _ => vary::copy_state_0(&mut plan),
     }
     plan.bytes().unwrap_or_else(|| plan.bytes_with(&actions))
