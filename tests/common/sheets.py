@@ -33,7 +33,7 @@ def parts(data):
     for _ in range(s):
         count = struct.unpack(">H", data[at : at + 2])[0]
         at += 2
-        states.append([(data[at + 10 * i], data[at + 10 * i + 1], struct.unpack(">Q", data[at + 10 * i + 2 : at + 10 * i + 10])[0]) for i in range(count)])
+        states.append([struct.unpack(">BBQ", data[at + 10 * i : at + 10 * i + 10]) for i in range(count)])
         at += 10 * count
     return [t, n, p, s, prods, actions, gotos, states]
 

@@ -1,4 +1,4 @@
-"""Smaller tables for a case: a production left out with all that it alone asks for, states, items, lookaheads and moves left out, bytes cut."""
+"""Smaller tables for a case: a production left out with all that it alone asks for; states, items, lookaheads and moves left out; bytes cut."""
 from sheets import sheet as bytes_of
 from sheets import whole_parts
 
