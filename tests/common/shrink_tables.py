@@ -20,6 +20,8 @@ def smaller(fields, parts):
         yield from cut_bytes(fields)
         return
     t, n, p, s, prods, actions, gotos, states = parts
+    for nonterminal in range(n - 1, 0, -1):
+        yield without_nonterminal(fields, nonterminal)
     for production in range(p - 1, 0, -1):
         yield without_production(fields, parts, production)
     yield unreached(fields, parts)
@@ -131,6 +133,17 @@ def without_production(fields, parts, production):
     if case and row:
         case["row"] = [word - 1 if i >= 2 and i % 3 == 2 and word > 256 + production else word for i, word in enumerate(row)]
     return case
+
+
+def without_nonterminal(fields, nonterminal):
+    """Leaves out all productions of a nonterminal and then itself, if no other right side has it."""
+    while fields:
+        parts = whole_parts(fields["table"])
+        own = [i for i, (left, _) in enumerate(parts[4]) if left == nonterminal] if parts else []
+        if not own:
+            return parts and without_symbol(fields, parts, 128 + nonterminal)
+        fields = without_production(fields, parts, own[-1])
+    return None
 
 
 def without_symbol(fields, parts, symbol):
