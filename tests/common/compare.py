@@ -98,7 +98,7 @@ class Covered:
 
 
 class Difference:
-    """Two answers to one case, with the seed and the place of the case among those made from it."""
+    """Two answers to one case, with its place among others and the seed that they were made from, if there is one."""
 
     def __init__(self, case, seed, place, one, two):
         self.case, self.seed, self.place, self.one, self.two = case, seed, place, one, two
@@ -142,7 +142,8 @@ def smallest_difference(found, one=library, two=other, seconds=60):
 
     begin = min(found, key=lambda difference: len(difference.case))
     case = smallest(begin.case, differ, seconds)
-    lines = [f"seed {begin.seed}, case {begin.place} of it, {len(begin.case)} bytes, made {len(case)} bytes small"]
+    made_of = f"seed {begin.seed}, case {begin.place} of it" if begin.seed else f"case {begin.place}"
+    lines = [f"{made_of}, {len(begin.case)} bytes, made {len(case)} bytes small"]
     return lines + shown(case, answers(one, [case])[0], answers(two, [case])[0])
 
 

@@ -84,14 +84,14 @@ def keep_states(parts, kept):
 
 
 def reached(parts):
-    """The states that moves lead to from state 0."""
+    """The states that moves lead to from state 0, and at least two."""
     actions, gotos = parts[5], parts[6]
     found = [0]
     for state in found:
         for target in [word - 256 for word in actions[state] if 256 <= word < 512] + [goto for goto in gotos[state] if goto != 255]:
             if target < parts[3] and target not in found:
                 found.append(target)
-    return sorted(found)
+    return sorted(found) if len(found) > 1 else list(range(min(parts[3], 2)))
 
 
 def unreached(fields, parts):
