@@ -76,7 +76,8 @@ def replaced(fields, nodes, tokens, at, other):
     edits = list(fields["edits"])
     for i in range(0, len(edits) // 3 * 3, 3):
         place, removed = edits[i], edits[i + 1]
-        edits[i], edits[i + 1] = moved(place), moved(place + removed) - moved(place)
+        if place + removed <= tokens[-1]:
+            edits[i], edits[i + 1] = moved(place), moved(place + removed) - moved(place)
     return {**fields, "row": new, "edits": edits}
 
 
