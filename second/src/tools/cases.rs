@@ -259,6 +259,6 @@ impl CaseMaker {
 
     /// How often the call is made over the same rows; mostly once.
     fn times(&mut self) -> u32 {
-        *self.random.pick(&[1, 1, 1, 1, 1, 1, 1, 1, 1, 1, 1, 1, 1, 1, 1, 1, 1, 1, 1, 2])
+        1 + u32::from(self.random.chance(5))
     }
 }

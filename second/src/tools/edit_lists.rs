@@ -29,11 +29,9 @@ pub struct EditMaker<'a> {
 impl EditMaker<'_> {
     /// A list of edits within the rules.
     pub fn edits(&self, random: &mut Random) -> Vec<MadeEdit> {
-        let large = self.old.nodes.len() > 1_500;
-        let mut edits = match random.below(21) {
-            kind if large && kind % 4 == 1 => self.near_the_limit(random),
-            kind if large && kind % 4 == 3 => self.before_and_behind(random),
-            20 => self.near_the_limit(random),
+        // A large tree is near the limits of nodes half of the time.
+        let kinds = if self.old.nodes.len() > 1_500 { 40 } else { 21 };
+        let mut edits = match random.below(kinds) {
             0..=1 => Vec::new(),
             2..=8 => self.pieces_derived_anew(random),
             9..=10 => vec![self.piece_copied(random)],
@@ -41,7 +39,9 @@ impl EditMaker<'_> {
             12..=14 => self.loose_edits(random),
             15 => self.whole_text(random),
             16..=17 => self.tokens_replaced_by_themselves(random),
-            _ => vec![self.to_another_text(random)],
+            18..=19 => vec![self.to_another_text(random)],
+            20..=29 => self.near_the_limit(random),
+            _ => self.before_and_behind(random),
         };
         while random.chance(25) && !edits.is_empty() {
             split_edit(&mut edits, random);
