@@ -77,10 +77,11 @@ class Covered:
             self.shown[name] = self.shown.get(name, 0) + int(count)
 
     def missing(self):
-        """What ought to have come and did not."""
+        """What ought to have come and did not, and answers that ought not to come at all."""
         wanted = [(kind, number) for kind in kinds for number in numbers[kind].split()]
         gone = [f"{kinds[kind]}: {number}" for kind, number in wanted if not self.met.get((kind, number))]
-        return gone + [name for name, count in self.shown.items() if not count]
+        strange = [f"{kinds[kind]}: {number} came" for kind, number in sorted(self.met.keys() - wanted)]
+        return gone + strange + [name for name, count in self.shown.items() if not count]
 
     def rarest(self, most):
         """The things met least, with their counts."""
@@ -93,8 +94,7 @@ class Covered:
         for kind, name in kinds.items():
             cells = [self.met.get((kind, head), 0) for head in heads]
             rows.append(f"{name:18}" + "".join(f"{cell or '-':>8}" for cell in cells))
-        strange = sorted(key for key in self.met if key[1] not in numbers[key[0]].split())
-        return rows + [f"{kinds[kind]}: {number}, which was not to be expected, {self.met[kind, number]} times" for kind, number in strange]
+        return rows
 
 
 class Difference:
@@ -117,13 +117,12 @@ def differing(given, seed, covered, one=library, two=other):
     return [Difference(case, seed, i, a, b) for i, (case, a, b) in enumerate(zip(cases, told, again)) if a != b]
 
 
-def compare(seed, count, covered, spread=True, progress=None):
+def compare(seed, count, covered, progress=None):
     """Compares so many made cases, batch by batch; ends early with the first batch that has differences."""
     done = 0
     while done < count:
         given = made(seed, min(batch, count - done))
-        if spread:
-            covered.spread(given)
+        covered.spread(given)
         found = differing(given, seed, covered)
         done += min(batch, count - done)
         if progress:
@@ -141,8 +140,10 @@ def smallest_difference(found, one=library, two=other, seconds=60):
         return [a != b for a, b in zip(answers(one, cases, 20), answers(two, cases, 20))]
 
     begin = min(found, key=lambda difference: len(difference.case))
-    case = smallest(begin.case, differ, seconds)
     made_of = f"seed {begin.seed}, case {begin.place} of it" if begin.seed else f"case {begin.place}"
+    if not differ([begin.case])[0]:
+        return [f"{made_of}: alone it is answered alike, the two differ behind the cases before it"] + shown(begin.case, begin.one, begin.two)
+    case = smallest(begin.case, differ, seconds)
     lines = [f"{made_of}, {len(begin.case)} bytes, made {len(case)} bytes small"]
     return lines + shown(case, answers(one, [case])[0], answers(two, [case])[0])
 
