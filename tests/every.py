@@ -1,5 +1,5 @@
-"""Small worlds tried whole, the library beside the second program: every change of one byte of two tables, every text of at most seven tokens
-of the house grammar, every edit, and every pair of small edits, of its short texts, and every change of one word of some old trees."""
+"""Small worlds tried whole, the library beside the second program: every change of one byte of two tables, and every cut; every text of at most
+seven tokens of the house grammar; every edit, and every pair of small edits, of its short texts; changes of every word of some old trees."""
 import itertools
 import os
 import sys
@@ -24,11 +24,15 @@ def alike(what, cases):
     print("  " + ", ".join(f"{n}: {numbers.count(n)}" for n in sorted(set(numbers))))
 
 
+def table_case(data):
+    return b"T" + number(len(data)) + data
+
+
 def changes(data):
     """Every change of one byte of a table."""
     for at, byte in itertools.product(range(len(data)), range(256)):
         if byte != data[at]:
-            yield b"T" + number(len(data)) + data[:at] + bytes([byte]) + data[at + 1 :]
+            yield table_case(data[:at] + bytes([byte]) + data[at + 1 :])
 
 
 def edits_of(tokens, most, longest):
@@ -43,6 +47,7 @@ def edits_of(tokens, most, longest):
 need_programs(build_second)
 for name, data in (("house", house), ("minimal", minimal)):
     alike(f"every change of one byte of the {name} table", list(changes(data)))
+    alike(f"the {name} table cut at every length", [table_case(data[:i]) for i in range(len(data) + 1)])
 texts = [list(text) for length in range(8) for text in itertools.product((1, 2, 3), repeat=length)]
 for name, data in (("house", house), ("canonical", canonical)):
     alike(f"every text of at most 7 tokens, {name} table", [read_case(data, text) for text in texts])
