@@ -34,6 +34,8 @@ FAULTS = [
      "items.iter().all(|item| item.dot == 0 || begins(item) ||"),
     # ---- old trees (5)
     ("a size word may be larger", "tree.rs", "if node.size != record[2] {", "if node.size > record[2] {"),
+    ("a child may be of another nonterminal", "tree.rs", "if nodes[child].symbol(sheet) != symbol {",
+     "if nodes[child].is_token() && nodes[child].symbol(sheet) != symbol {"),
     ("a number may be the next number", "tree.rs", "sorted[sorted.len() - 1] < next_number", "sorted[sorted.len() - 1] <= next_number"),
     ("two numbers may be alike", "tree.rs", "pair[0] < pair[1]", "pair[0] <= pair[1]"),
     ("2,049 nodes", "tree.rs", "count > MOST_NODES {", "count > MOST_NODES + 1 {"),

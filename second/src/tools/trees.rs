@@ -8,6 +8,7 @@ use crate::tools::case::MOST_ROW_WORDS;
 use crate::tools::edit_lists::EditWords;
 use crate::tools::random::Random;
 use crate::tools::texts::{Derivations, Spare, Wanted};
+use crate::tree::PRODUCTION;
 use crate::{read_afresh, update};
 
 /// The row of a fresh reading numbered from 1, if the text is accepted.
@@ -89,7 +90,7 @@ fn distinct_below(next_number: u32, count: usize, random: &mut Random) -> Vec<u3
 pub fn damage_row(row: &mut Vec<u32>, sheet: &Sheet, random: &mut Random) {
     let count = row[0] as usize;
     let record = 2 + 3 * random.below(count);
-    match random.below(14) {
+    match random.below(15) {
         0 => row[0] = *random.pick(&[0, row[0] - 1, row[0] + 1, 2048, 2049, u32::MAX]),
         1 => row[1] = *random.pick(&[0, 1, row[1] - 1, row[3], row[0]]),
         2 => row[record] = wrong_kind(sheet, random),
@@ -106,6 +107,7 @@ pub fn damage_row(row: &mut Vec<u32>, sheet: &Sheet, random: &mut Random) {
         10 => keep_piece(row, record),
         11 => row.truncate(random.below(2)),
         12 => row[record + 1] = 0,
+        13 => give_other_left_side(row, sheet, random),
         _ => add_records(row, random),
     }
 }
@@ -113,6 +115,28 @@ pub fn damage_row(row: &mut Vec<u32>, sheet: &Sheet, random: &mut Random) {
 fn wrong_kind(sheet: &Sheet, random: &mut Random) -> u32 {
     let (terminals, productions) = (sheet.terminals as u32, sheet.productions.len() as u32);
     *random.pick(&[0, 1, terminals, 255, 256, 257, 256 + productions, u32::MAX])
+}
+
+/// Gives a node another production of the same right side, or as long a one, with another left side.
+fn give_other_left_side(row: &mut [u32], sheet: &Sheet, random: &mut Random) {
+    let rules = &sheet.productions;
+    for _ in 0..8 {
+        let record = 2 + 3 * random.below(row[0] as usize);
+        let Some(own) = row[record].checked_sub(PRODUCTION).map(|own| &rules[own as usize]) else {
+            continue;
+        };
+        let unlike = |at: &usize| *at > 0 && rules[*at].left != own.left;
+        let alike = |at: &usize| unlike(at) && rules[*at].right_side() == own.right_side();
+        let as_long = |at: &usize| unlike(at) && rules[*at].length == own.length;
+        let mut others: Vec<usize> = (0..rules.len()).filter(alike).collect();
+        if others.is_empty() {
+            others = (0..rules.len()).filter(as_long).collect();
+        }
+        if !others.is_empty() {
+            row[record] = PRODUCTION + *random.pick(&others) as u32;
+            return;
+        }
+    }
 }
 
 fn exchange_records(row: &mut [u32], random: &mut Random) {
