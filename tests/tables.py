@@ -6,6 +6,9 @@ import struct
 import subprocess
 import sys
 
+sys.path.insert(0, os.path.join(os.path.dirname(os.path.abspath(__file__)), "common"))
+from sheets import parts, sheet
+
 here = os.path.dirname(os.path.dirname(os.path.abspath(__file__)))
 judge = os.path.join(here, "target", "bin", "judge")
 passed = failed = 0
@@ -31,42 +34,6 @@ def expect(what, tables, wanted):
 
 def table(name):
     return open(os.path.join(here, "tables", name), "rb").read()
-
-
-def sheet(t, n, p, s, prods, actions, gotos, states):
-    """A sheet from its parts; a state is a list of (production, dot, set)."""
-    out = b"LRT\0\1" + bytes([t, n, p, s])
-    for left, symbols in prods:
-        out += bytes([left, len(symbols)] + symbols + [0] * (8 - len(symbols)))
-    for row in actions:
-        out += b"".join(struct.pack(">H", w) for w in row)
-    for row in gotos:
-        out += bytes(row)
-    for items in states:
-        out += struct.pack(">H", len(items)) + b"".join(bytes([q, d]) + struct.pack(">Q", x) for q, d, x in items)
-    return out
-
-
-def parts(data):
-    """The parts of a sheet, as `sheet` takes them."""
-    t, n, p, s = data[5:9]
-    at = 9
-    prods, actions, gotos, states = [], [], [], []
-    for _ in range(p):
-        prods.append((data[at], list(data[at + 2 : at + 2 + data[at + 1]])))
-        at += 10
-    for _ in range(s):
-        actions.append(list(struct.unpack(f">{t}H", data[at : at + 2 * t])))
-        at += 2 * t
-    for _ in range(s):
-        gotos.append(list(data[at : at + n]))
-        at += n
-    for _ in range(s):
-        count = struct.unpack(">H", data[at : at + 2])[0]
-        at += 2
-        states.append([(data[at + 10 * i], data[at + 10 * i + 1], struct.unpack(">Q", data[at + 10 * i + 2 : at + 10 * i + 10])[0]) for i in range(count)])
-        at += 10 * count
-    return [t, n, p, s, prods, actions, gotos, states]
 
 
 def with_states(more):

@@ -1,4 +1,4 @@
-//! The program `second`: judge, cases, vectors, expect, bench, and the small program of document 01.
+//! The program `second`: judge, cases, spread, vectors, expect, bench, and the small program of document 01.
 
 use std::fs;
 use std::io::{self, BufReader, BufWriter, Read, Write};
@@ -9,10 +9,12 @@ use second::small_program::lines_for;
 use second::tools::bench::{bench, Tables};
 use second::tools::cases::write_cases;
 use second::tools::judge::judge_all;
+use second::tools::spread::spread_of;
 use second::tools::vectors::{vectors_of, Vector};
 
 const USAGE: &str = "usage: second judge < CASES
        second cases SEED COUNT [--tables DIR]
+       second spread < CASES
        second vectors FILE.jsonl
        second expect FILE.jsonl
        second bench --tables DIR
@@ -56,6 +58,10 @@ fn run(arguments: &[String]) -> Result<(), Failure> {
         (["cases", seed, count], folder) => {
             let tables = folder.map_or(Ok(Vec::new()), |folder| tables_in(Path::new(folder)))?;
             write_cases(number(seed)?, number(count)? as usize, tables, &mut output)?;
+        }
+        (["spread"], None) => {
+            let mut input = BufReader::with_capacity(1 << 16, io::stdin().lock());
+            spread_of(&mut input, &mut output)?;
         }
         (["vectors", file], None) => {
             for vector in load(file)? {

@@ -3,8 +3,9 @@
 mod common;
 
 use common::*;
+use second::sheet::read_sheet;
 use second::small_program::lines_for;
-use second::tools::plan::{production, Grammar};
+use second::tools::plan::{production, Grammar, Plan};
 use second::{check, Check};
 
 const NONE: [u32; 5] = [0; 5];
@@ -16,6 +17,16 @@ fn the_house_table() {
     assert_eq!(table[5..9], [4, 3, 5, 7]);
     assert_eq!(check(&table), Check::Yes);
     assert_eq!(check(&canonical_table(&house_grammar())), Check::Yes);
+}
+
+#[test]
+fn default_reductions_fail_5() {
+    let plan = Plan::of_sheet(&read_sheet(&house()).expect("a sheet"));
+    let mut actions = plan.actions().expect("no conflict");
+    for row in actions.iter_mut().filter(|row| row.contains(&513)) {
+        row.iter_mut().filter(|word| **word == 0).for_each(|word| *word = 513);
+    }
+    assert_eq!(check(&plan.bytes_with(&actions)), Check::StatesWrong(vec![5]));
 }
 
 #[test]

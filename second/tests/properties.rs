@@ -13,6 +13,7 @@ use second::grammar::rules_hold;
 use second::sheet::{read_sheet, Sheet};
 use second::tools::case::{Case, Edited};
 use second::tools::cases::CaseMaker;
+use second::tools::faults::{edit_faults, grammar_faults, layout_faults, tree_faults};
 use second::tools::grammars::random_plan;
 use second::tools::judge::{judge_all, Judge};
 use second::tools::random::Random;
@@ -187,6 +188,42 @@ fn reading_lists_are_those_written_out() {
         list.reverse();
         assert_eq!(list, naive::reading_list(&ruled.old, &ruled.edits, &ruled.put));
     }
+}
+
+#[test]
+fn faults_are_found_where_the_library_refuses() {
+    let mut met = [0; 4];
+    for case in made_cases(15, 9_000) {
+        let (table, edited) = match case {
+            Case::Table { table } | Case::Read { table, .. } => (table, None),
+            Case::Update { edited, .. } | Case::List { edited } => {
+                (edited.table.clone(), Some(edited))
+            }
+        };
+        let Some(sheet) = read_sheet(&table) else {
+            met[0] += 1;
+            assert_ne!(layout_faults(&table).found, 0);
+            continue;
+        };
+        assert_eq!(layout_faults(&table).found, 0);
+        assert_eq!(grammar_faults(&sheet).found == 0, rules_hold(&sheet));
+        met[1] += usize::from(!rules_hold(&sheet));
+        let Some(Edited { row, edits, put, .. }) = edited.filter(|_| rules_hold(&sheet)) else {
+            continue;
+        };
+        let old = tree_in_order(&sheet, &row);
+        assert_eq!(tree_faults(&sheet, &row).found == 0, old.is_some());
+        let Some(old) = old else {
+            met[2] += 1;
+            continue;
+        };
+        let tokens = old.token_nodes.len();
+        let right = edits_in_rule(&sheet, tokens, &edits, &put).is_some();
+        assert_eq!(edit_faults(sheet.terminals, tokens, &edits, &put).found == 0, right);
+        met[3] += usize::from(!right);
+    }
+    println!("refused for layout, grammar, tree, edits: {met:?}");
+    assert!(met.iter().all(|&count| count > 50));
 }
 
 #[test]

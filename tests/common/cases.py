@@ -11,6 +11,8 @@ second = os.path.join(built, "release", "second")
 
 TREE, ROOM = 6146, 16384
 M, OPENS, CLOSES = 1, 2, 3
+# the fields of each kind of case: b a length and bytes, w a length and words, n a number
+FIELDS = {b"T": "b", b"R": "bwnnn", b"N": "nbwnnn", b"U": "bwwwnn", b"V": "nbwwwnn", b"L": "bwww"}
 
 
 def table(name):
@@ -75,13 +77,12 @@ def of_update(v):
 
 
 def split(cases):
-    """The single cases of a row of them, of kinds T, R and U."""
-    fields = {b"T": "b", b"R": "bwnnn", b"U": "bwwwnn"}
+    """The single cases of a row of them."""
     at, found = 0, []
     while at < len(cases):
         start = at
         at += 1
-        for field in fields[cases[start : start + 1]]:
+        for field in FIELDS[cases[start : start + 1]]:
             count = struct.unpack_from(">I", cases, at)[0]
             at += 4 + {"b": count, "w": 4 * count, "n": 0}[field]
         found.append(cases[start:at])

@@ -3,7 +3,7 @@
 use crate::sheet::Sheet;
 use crate::tools::case::MOST_CODES;
 use crate::tools::random::Random;
-use crate::tools::texts::{damage_code, damage_text, Derivations, Wanted};
+use crate::tools::texts::{damage_text, wrong_code, Derivations, Wanted};
 use crate::tree::OldTree;
 
 #[derive(Clone, PartialEq, Eq, Debug)]
@@ -29,7 +29,9 @@ pub struct EditMaker<'a> {
 impl EditMaker<'_> {
     /// A list of edits within the rules.
     pub fn edits(&self, random: &mut Random) -> Vec<MadeEdit> {
-        let mut edits = match random.below(20) {
+        // A large tree is near the limits of nodes half of the time.
+        let kinds = if self.old.nodes.len() > 1_500 { 40 } else { 21 };
+        let mut edits = match random.below(kinds) {
             0..=1 => Vec::new(),
             2..=8 => self.pieces_derived_anew(random),
             9..=10 => vec![self.piece_copied(random)],
@@ -37,7 +39,9 @@ impl EditMaker<'_> {
             12..=14 => self.loose_edits(random),
             15 => self.whole_text(random),
             16..=17 => self.tokens_replaced_by_themselves(random),
-            _ => vec![self.to_another_text(random)],
+            18..=19 => vec![self.to_another_text(random)],
+            20..=29 => self.near_the_limit(random),
+            _ => self.before_and_behind(random),
         };
         while random.chance(25) && !edits.is_empty() {
             split_edit(&mut edits, random);
@@ -104,6 +108,47 @@ impl EditMaker<'_> {
         let range = self.old.token_range(random.below(self.old.nodes.len()));
         let place = if random.chance(50) { range.start } else { range.end };
         MadeEdit { place, removed: 0, put: self.text()[range].to_vec() }
+    }
+
+    /// A piece's tokens put in so often beside it that about 2,048 nodes result; at times something
+    /// wrong behind, so that the reading ends while much is held.
+    fn near_the_limit(&self, random: &mut Random) -> Vec<MadeEdit> {
+        let tries: Vec<usize> = (0..4).map(|_| self.any_node(random)).collect();
+        let node = tries.into_iter().min_by_key(|&node| self.old.nodes[node].size).unwrap_or(0);
+        let range = self.old.token_range(node);
+        let tokens = self.text()[range.clone()].to_vec();
+        let wanted = (2_046 + random.below(8)).saturating_sub(self.old.nodes.len());
+        let least = if random.chance(50) { 2 } else { self.old.nodes[node].size as usize };
+        let times = (wanted / least.max(1)).min(1_500 / tokens.len().max(1));
+        let place = if random.chance(50) { range.start } else { range.end };
+        let mut edits = vec![MadeEdit { place, removed: 0, put: tokens.repeat(times) }];
+        if random.chance(40) {
+            let place = random.between(place, self.tokens());
+            let code = random.below(self.sheet.terminals).max(1) as u32;
+            let removed = random.below(2).min(self.tokens() - place);
+            edits.push(MadeEdit {
+                place,
+                removed,
+                put: vec![code; self.sheet.terminals.min(2) - 1],
+            });
+        }
+        edits
+    }
+
+    /// Some tokens before the text and a wrong one at its end: what is between stands whole, and the
+    /// reading ends while all of it is held.
+    fn before_and_behind(&self, random: &mut Random) -> Vec<MadeEdit> {
+        let text = self.text();
+        let part = random.between(1, 3).min(text.len());
+        let wanted = 2_049usize.saturating_sub(self.old.nodes.len()) + random.below(4);
+        let before = text[..part].repeat(wanted.min(100) / part.max(1) + 1);
+        let removed = random.below(2).min(text.len());
+        let code = random.below(self.sheet.terminals).max(1) as u32;
+        let put = vec![code; self.sheet.terminals.min(2) - 1];
+        vec![
+            MadeEdit { place: 0, removed: 0, put: before },
+            MadeEdit { place: text.len() - removed, removed, put },
+        ]
     }
 
     fn piece_removed(&self, random: &mut Random) -> Vec<MadeEdit> {
@@ -198,7 +243,7 @@ pub fn damage_edits(edits: &mut EditWords, terminals: usize, tokens: usize, rand
         edits.words.extend([tokens, 0, 0]);
     }
     let record = 3 * random.below(edits.words.len() / 3);
-    match random.below(11) {
+    match random.below(12) {
         0 => edits.words.truncate(edits.words.len() - random.between(1, 2)),
         1 => edits.words.push(random.below(3) as u32),
         2 => edits.words[record] = tokens + random.between(1, 3) as u32,
@@ -209,11 +254,32 @@ pub fn damage_edits(edits: &mut EditWords, terminals: usize, tokens: usize, rand
         5 => edits.words[record + 2] = *random.pick(&[0, 1, edits.words[record + 2] + 1, u32::MAX]),
         6 => edits.words.extend([0, 0, 0]),
         7 => edits.put.push(1),
+        10 => overlap(&mut edits.words, tokens, random),
         8 => {
             edits.put.pop();
         }
-        9 => damage_code(&mut edits.put, terminals, random),
+        9 => {
+            if edits.put.is_empty() {
+                edits.words.extend([tokens, 0, 1]);
+                edits.put.push(1);
+            }
+            let at = random.below(edits.put.len());
+            edits.put[at] = if random.chance(40) { 0 } else { wrong_code(terminals, random) };
+        }
         _ => put_in_too_many(edits, tokens, random),
+    }
+}
+
+/// An edit that ends at or behind another's end and begins before it.
+fn overlap(words: &mut Vec<u32>, tokens: u32, random: &mut Random) {
+    let record = 3 * random.below(words.len() / 3);
+    let end = words[record] + words[record + 1];
+    if end > 0 && end <= tokens {
+        let place = end - random.between(1, end.min(3) as usize) as u32;
+        let removed = random.between((end - place) as usize, (tokens - place) as usize) as u32;
+        let last = words.len() == record + 3 || random.chance(50);
+        let at = if last { words.len() } else { record + 3 };
+        words.splice(at..at, [place, removed, 0]);
     }
 }
 

@@ -50,6 +50,7 @@ pub fn vary_plan(plan: &mut Plan, random: &mut Random) {
 fn random_grammar(random: &mut Random) -> Grammar {
     let terminals = match random.below(20) {
         0 => 1,
+        1 if random.chance(25) => 64,
         1 => random.between(7, 64),
         _ => random.between(2, 6),
     };
@@ -62,10 +63,33 @@ fn random_grammar(random: &mut Random) -> Grammar {
         productions.extend(right_sides.iter().map(|right_side| production(left, right_side)));
     }
     let mut grammar = Grammar { terminals, nonterminals, productions };
+    if random.chance(12) {
+        add_hollow(&mut grammar, random);
+    }
     if random.chance(3) {
         widen(&mut grammar, random);
     }
     grammar
+}
+
+/// Adds a nonterminal whose piece has nodes and no tokens, mostly at the end of right sides.
+fn add_hollow(grammar: &mut Grammar, random: &mut Random) {
+    let (hollow, nothing) = (grammar.nonterminals as u8, grammar.nonterminals as u8 + 1);
+    let parts = vec![NONTERMINAL + nothing; random.between(1, 3)];
+    for rule in grammar.productions.iter_mut().skip(1) {
+        let mut right_side = rule.right_side().to_vec();
+        if right_side.len() < 8 && random.chance(50) {
+            let at = if random.chance(80) {
+                right_side.len()
+            } else {
+                random.below(right_side.len() + 1)
+            };
+            right_side.insert(at, NONTERMINAL + hollow);
+            *rule = production(rule.left, &right_side);
+        }
+    }
+    grammar.productions.extend([production(hollow, &parts), production(nothing, &[])]);
+    grammar.nonterminals += 2;
 }
 
 /// Adds nonterminals that nothing leads to, up to 64 of them and up to 200 productions.
@@ -153,7 +177,7 @@ impl Maker<'_> {
 }
 
 /// Whether every nonterminal derives some string of terminals.
-fn derives_all(grammar: &Grammar) -> bool {
+pub fn derives_all(grammar: &Grammar) -> bool {
     let mut derives = vec![false; grammar.nonterminals];
     let right = |rule: &Production, derives: &[bool]| {
         rule.right_side().iter().all(|&s| s < NONTERMINAL || derives[(s - NONTERMINAL) as usize])

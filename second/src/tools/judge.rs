@@ -13,13 +13,17 @@ use crate::{check, read_afresh, update};
 const TREE_FILL: u32 = 2_779_096_485;
 const ROOM_FILL: u32 = 1_515_870_810;
 
-/// Judges all cases of the input; prints `input` and stops where it is malformed.
+/// Judges all cases of the input; prints `input` and stops where it is malformed. Each answer is
+/// handed on at once, so that none is lost where a later case ends the program.
 pub fn judge_all(input: &mut impl BufRead, output: &mut impl Write) -> io::Result<()> {
     let mut judge = Judge::new();
     loop {
         match Case::read(input) {
             Ok(None) => return Ok(()),
-            Ok(Some(case)) => output.write_all(judge.lines_for(&case).as_bytes())?,
+            Ok(Some(case)) => {
+                output.write_all(judge.lines_for(&case).as_bytes())?;
+                output.flush()?;
+            }
             Err(_) => return output.write_all(b"input\n"),
         }
     }

@@ -2,6 +2,7 @@
 
 use crate::set::TerminalSet;
 use crate::sheet::{read_sheet, NONTERMINAL};
+use crate::tools::one_rule::{wrong_grammar, wrong_layout};
 use crate::tools::plan::{ActionRow, Plan};
 use crate::tools::random::Random;
 use crate::tools::vary;
@@ -15,11 +16,13 @@ pub fn spoiled_table(table: &[u8], random: &mut Random) -> Vec<u8> {
 fn spoiled_once(table: &[u8], random: &mut Random) -> Vec<u8> {
     let plan = read_sheet(table).map(|sheet| Plan::of_sheet(&sheet));
     let actions = plan.as_ref().and_then(|plan| plan.actions());
-    match (random.below(20), plan.zip(actions)) {
-        (0..=6, _) | (_, None) => spoiled_bytes(table, random),
-        (7..=11, Some((plan, actions))) => spoiled_words(plan, actions, random),
-        (12..=15, Some((plan, actions))) => spoiled_items(plan, actions, random),
-        (16..=17, Some((plan, actions))) => spoiled_finely(plan, actions, random),
+    match (random.below(28), plan.zip(actions)) {
+        (0..=4, _) | (_, None) => spoiled_bytes(table, random),
+        (5..=9, Some((plan, actions))) => spoiled_words(plan, actions, random),
+        (10..=14, Some((plan, actions))) => spoiled_items(plan, actions, random),
+        (15..=19, Some((plan, actions))) => spoiled_finely(plan, actions, random),
+        (20..=23, _) => wrong_layout(table, random),
+        (24..=25, _) => wrong_grammar(table, random),
         (_, Some((plan, actions))) => spoiled_productions(plan, actions, random),
     }
 }
@@ -103,16 +106,20 @@ fn spoiled_items(mut plan: Plan, actions: Vec<ActionRow>, random: &mut Random) -
     plan.bytes_with(&actions)
 }
 
-/// Adds an item that no chain leads to, or a state that nothing leads to without one of its items;
-/// actions are worked out anew, so that few conditions break.
+/// Adds an item that no chain leads to, or one with its dot moved to state 0, or a state that nothing
+/// leads to without one of its items; takes a lookahead from an item with dot 0; leads two symbols to
+/// one state. Actions are worked out anew, so that few conditions break.
 fn spoiled_finely(mut plan: Plan, actions: Vec<ActionRow>, random: &mut Random) -> Vec<u8> {
-    match random.below(4) {
+    match random.below(9) {
         0 => vary::add_unled_item(&mut plan, random),
         1 => {
             vary::copy_state(&mut plan, random);
             vary::add_unled_item(&mut plan, random);
         }
-        2 => vary::copy_without_item(&mut plan, random),
+        2..=4 => vary::copy_without_item(&mut plan, random),
+        5 => vary::drop_lookahead(&mut plan, random),
+        6 => vary::add_moved_item(&mut plan, random),
+        7 => vary::join_targets(&mut plan, random),
         _ => vary::copy_state_0(&mut plan),
     }
     plan.bytes().unwrap_or_else(|| plan.bytes_with(&actions))

@@ -3,6 +3,7 @@
 use crate::sheet::{is_nonterminal, Production, Sheet, NONTERMINAL};
 use crate::tools::case::MOST_CODES;
 use crate::tools::random::Random;
+use crate::tree::PRODUCTION;
 
 /// More nodes than any text needs; stands for sizes too large to derive.
 const HUGE: usize = 100_000;
@@ -14,6 +15,13 @@ pub struct Derivations<'a> {
     least: Vec<usize>,
     /// The nonterminals whose pieces have no largest size.
     grows: u64,
+}
+
+/// What is still to be derived: a symbol with the nodes it may have, or the parent of what was derived
+/// since so many records.
+enum Open {
+    Symbol(u8, usize),
+    Parent(usize, usize),
 }
 
 /// Which child gets the nodes that are to spare.
@@ -84,22 +92,44 @@ impl<'a> Derivations<'a> {
 
     /// Tokens of a piece of the nonterminal, of about so many nodes where it can be so large.
     pub fn text(&self, nonterminal: u8, wanted: Wanted, random: &mut Random) -> Vec<u32> {
-        let mut tokens = Vec::new();
-        let mut open = vec![(NONTERMINAL + nonterminal, wanted.nodes)];
-        while let Some((symbol, nodes)) = open.pop() {
-            if !is_nonterminal(symbol) {
-                tokens.push(symbol as u32);
-            } else {
-                let rule = self.choose(symbol - NONTERMINAL, nodes, wanted.eager, random);
-                let mut parts = self.shares(rule, nodes, wanted.spare, random);
-                parts.reverse();
-                open.extend(rule.right_side().iter().rev().copied().zip(parts));
+        let (records, _) = self.records(nonterminal, wanted, random);
+        records.into_iter().map(|(kind, _)| kind).filter(|&kind| kind < PRODUCTION).collect()
+    }
+
+    /// Kinds and sizes of such a piece in written order, and whether it is whole: one with too many
+    /// tokens breaks off.
+    pub fn records(
+        &self,
+        nonterminal: u8,
+        wanted: Wanted,
+        random: &mut Random,
+    ) -> (Vec<(u32, u32)>, bool) {
+        let (mut records, mut tokens) = (Vec::new(), 0);
+        let mut open = vec![Open::Symbol(NONTERMINAL + nonterminal, wanted.nodes)];
+        while let Some(next) = open.pop() {
+            match next {
+                Open::Symbol(symbol, nodes) if is_nonterminal(symbol) => {
+                    let chosen = self.choose(symbol - NONTERMINAL, nodes, wanted.eager, random);
+                    let rule = &self.sheet.productions[chosen];
+                    let parts = self.shares(rule, nodes, wanted.spare, random);
+                    open.push(Open::Parent(chosen, records.len()));
+                    let children = rule.right_side().iter().copied().zip(parts).rev();
+                    open.extend(children.map(|(symbol, nodes)| Open::Symbol(symbol, nodes)));
+                }
+                Open::Symbol(terminal, _) => {
+                    records.push((terminal as u32, 1));
+                    tokens += 1;
+                }
+                Open::Parent(production, begin) => {
+                    let size = (records.len() + 1 - begin) as u32;
+                    records.push((PRODUCTION + production as u32, size));
+                }
             }
-            if tokens.len() >= MOST_CODES - 50 || open.len() > HUGE {
-                break;
+            if tokens >= MOST_CODES - 50 || open.len() > HUGE {
+                return (records, false);
             }
         }
-        tokens
+        (records, true)
     }
 
     /// Whether pieces of the nonterminal have no largest size.
@@ -108,26 +138,19 @@ impl<'a> Derivations<'a> {
     }
 
     /// A production that fits in so many nodes, mostly a growing one; else the smallest.
-    fn choose(
-        &self,
-        nonterminal: u8,
-        nodes: usize,
-        eager: usize,
-        random: &mut Random,
-    ) -> &Production {
+    fn choose(&self, nonterminal: u8, nodes: usize, eager: usize, random: &mut Random) -> usize {
         let of_it = |number: &usize| self.sheet.productions[*number].left == nonterminal;
         let numbers: Vec<usize> = (0..self.sheet.productions.len()).filter(of_it).collect();
         let least = |number: usize| self.least_of(&self.sheet.productions[number]);
         let fit: Vec<usize> = numbers.iter().copied().filter(|&n| least(n) <= nodes).collect();
         let grow: Vec<usize> = fit.iter().copied().filter(|&n| self.rule_grows(n)).collect();
-        let chosen = if !grow.is_empty() && random.chance(eager) {
+        if !grow.is_empty() && random.chance(eager) {
             *random.pick(&grow)
         } else if !fit.is_empty() {
             *random.pick(&fit)
         } else {
             numbers.into_iter().min_by_key(|&number| least(number)).unwrap_or(0)
-        };
-        &self.sheet.productions[chosen]
+        }
     }
 
     fn rule_grows(&self, production: usize) -> bool {
@@ -212,13 +235,18 @@ pub fn damage_text(text: &mut Vec<u32>, terminals: usize, random: &mut Random) {
     }
 }
 
-/// Gives one token a code that may be none.
+/// Gives one token a code that is none.
 pub fn damage_code(codes: &mut Vec<u32>, terminals: usize, random: &mut Random) {
-    let wrong = *random.pick(&[0, terminals as u32, 255, 256, 257, 65_536 + 1, u32::MAX]);
+    let wrong = wrong_code(terminals, random);
     let at = random.below(codes.len() + 1);
     if at < codes.len() {
         codes[at] = wrong;
     } else {
         codes.push(wrong);
     }
+}
+
+/// A code that no token of so many terminals has.
+pub fn wrong_code(terminals: usize, random: &mut Random) -> u32 {
+    *random.pick(&[0, terminals as u32, 255, 256, 257, 65_536 + 1, u32::MAX])
 }

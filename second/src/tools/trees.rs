@@ -1,12 +1,15 @@
-//! Old trees for updates: rows of fresh readings with other numbers, and damaged rows.
+//! Old trees for updates: rows of fresh readings and of updates, other numbers, and damaged rows.
 
 use std::collections::BTreeSet;
 
-use crate::answer::{ROOM_WORDS, TREE_WORDS};
-use crate::read_afresh;
+use crate::answer::{MOST_NODES, ROOM_WORDS, TREE_WORDS};
 use crate::sheet::Sheet;
 use crate::tools::case::MOST_ROW_WORDS;
+use crate::tools::edit_lists::EditWords;
 use crate::tools::random::Random;
+use crate::tools::texts::{Derivations, Spare, Wanted};
+use crate::tree::PRODUCTION;
+use crate::{read_afresh, update};
 
 /// The row of a fresh reading numbered from 1, if the text is accepted.
 pub fn fresh_row(table: &[u8], codes: &[u32]) -> Option<Vec<u32>> {
@@ -18,6 +21,34 @@ pub fn fresh_row(table: &[u8], codes: &[u32]) -> Option<Vec<u32>> {
     }
     tree.truncate(2 + 3 * tree[0] as usize);
     Some(tree)
+}
+
+/// The row after an update, if it is accepted.
+pub fn updated_row(table: &[u8], row: &[u32], edits: &EditWords) -> Option<Vec<u32>> {
+    let mut tree = vec![0; TREE_WORDS];
+    let mut room = vec![0; ROOM_WORDS];
+    let answer = update(table, row, &edits.words, &edits.put, &mut tree, &mut room);
+    if answer.number != 0 {
+        return None;
+    }
+    tree.truncate(2 + 3 * tree[0] as usize);
+    Some(tree)
+}
+
+/// A tree of one node too many or a few, in order otherwise; `None` where none is found soon.
+pub fn row_too_large(sheet: &Sheet, random: &mut Random) -> Option<Vec<u32>> {
+    let derivations = Derivations::of(sheet);
+    for _ in 0..4 {
+        let nodes = random.between(MOST_NODES + 1, MOST_NODES + 4);
+        let wanted = Wanted { nodes, spare: Spare::Any, eager: 100 };
+        let (records, whole) = derivations.records(sheet.start(), wanted, random);
+        if whole && records.len() > MOST_NODES && 2 + 3 * records.len() < MOST_ROW_WORDS - 9 {
+            let count = records.len() as u32;
+            let numbered = records.iter().zip(1..).map(|(&(kind, size), at)| [kind, at, size]);
+            return Some([count, count + 1].into_iter().chain(numbered.flatten()).collect());
+        }
+    }
+    None
 }
 
 /// Gives the nodes other distinct numbers, and the sheet another next number above them.
@@ -59,7 +90,7 @@ fn distinct_below(next_number: u32, count: usize, random: &mut Random) -> Vec<u3
 pub fn damage_row(row: &mut Vec<u32>, sheet: &Sheet, random: &mut Random) {
     let count = row[0] as usize;
     let record = 2 + 3 * random.below(count);
-    match random.below(12) {
+    match random.below(15) {
         0 => row[0] = *random.pick(&[0, row[0] - 1, row[0] + 1, 2048, 2049, u32::MAX]),
         1 => row[1] = *random.pick(&[0, 1, row[1] - 1, row[3], row[0]]),
         2 => row[record] = wrong_kind(sheet, random),
@@ -74,6 +105,9 @@ pub fn damage_row(row: &mut Vec<u32>, sheet: &Sheet, random: &mut Random) {
         8 => exchange_records(row, random),
         9 => leave_out_record(row, record),
         10 => keep_piece(row, record),
+        11 => row.truncate(random.below(2)),
+        12 => row[record + 1] = 0,
+        13 => give_other_left_side(row, sheet, random),
         _ => add_records(row, random),
     }
 }
@@ -81,6 +115,28 @@ pub fn damage_row(row: &mut Vec<u32>, sheet: &Sheet, random: &mut Random) {
 fn wrong_kind(sheet: &Sheet, random: &mut Random) -> u32 {
     let (terminals, productions) = (sheet.terminals as u32, sheet.productions.len() as u32);
     *random.pick(&[0, 1, terminals, 255, 256, 257, 256 + productions, u32::MAX])
+}
+
+/// Gives a node another production of the same right side, or as long a one, with another left side.
+fn give_other_left_side(row: &mut [u32], sheet: &Sheet, random: &mut Random) {
+    let rules = &sheet.productions;
+    for _ in 0..8 {
+        let record = 2 + 3 * random.below(row[0] as usize);
+        let Some(own) = row[record].checked_sub(PRODUCTION).map(|own| &rules[own as usize]) else {
+            continue;
+        };
+        let unlike = |at: &usize| *at > 0 && rules[*at].left != own.left;
+        let alike = |at: &usize| unlike(at) && rules[*at].right_side() == own.right_side();
+        let as_long = |at: &usize| unlike(at) && rules[*at].length == own.length;
+        let mut others: Vec<usize> = (0..rules.len()).filter(alike).collect();
+        if others.is_empty() {
+            others = (0..rules.len()).filter(as_long).collect();
+        }
+        if !others.is_empty() {
+            row[record] = PRODUCTION + *random.pick(&others) as u32;
+            return;
+        }
+    }
 }
 
 fn exchange_records(row: &mut [u32], random: &mut Random) {

@@ -42,9 +42,25 @@ pub fn add_unled_item(plan: &mut Plan, random: &mut Random) {
     }
 }
 
+/// Tries to add an item with a dot above 0 to state 0, and what conditions 2 and 3 ask for with it.
+pub fn add_moved_item(plan: &mut Plan, random: &mut Random) {
+    let first = First::of(&plan.grammar.productions);
+    for _ in 0..8 {
+        let production = random.below(plan.grammar.productions.len());
+        let dot = random.between(0, plan.grammar.productions[production].length as usize);
+        let set = TerminalSet::one(random.below(plan.grammar.terminals) as u8);
+        let mut larger = plan.clone();
+        let item = (production as u8, dot as u8);
+        if dot > 0 && add(&mut larger, &first, 0, item, set) && larger.actions().is_some() {
+            *plan = larger;
+            return;
+        }
+    }
+}
+
 /// Adds lookaheads to an item and to all that conditions 2 and 3 ask for; false where production 0
 /// would get other lookaheads than the end mark, or a transition is missing.
-fn add(plan: &mut Plan, first: &First, state: usize, item: (u8, u8), set: TerminalSet) -> bool {
+pub fn add(plan: &mut Plan, first: &First, state: usize, item: (u8, u8), set: TerminalSet) -> bool {
     let mut open = vec![(state, item, set)];
     while let Some((state, item, set)) = open.pop() {
         if item.0 == 0 && set != TerminalSet::one(END) {
@@ -137,6 +153,59 @@ pub fn copy_without_item(plan: &mut Plan, random: &mut Random) {
     let mut copy = plan.states[number].clone();
     copy.items.remove(&item);
     plan.states.push(copy);
+}
+
+/// Tries to lead two transitions of one state to one state with the items of both targets, so that it
+/// is entered on two symbols.
+pub fn join_targets(plan: &mut Plan, random: &mut Random) {
+    for _ in 0..8 {
+        let from = random.below(plan.states.len());
+        let leads: Vec<(u8, usize)> =
+            plan.states[from].transitions.iter().map(|(&symbol, &to)| (symbol, to)).collect();
+        if leads.len() < 2 {
+            continue;
+        }
+        let ((one, first), (two, second)) = (*random.pick(&leads), *random.pick(&leads));
+        let mut joint = plan.states[first].clone();
+        let other = plan.states[second].clone();
+        let agree =
+            |(symbol, to): (&u8, &usize)| joint.transitions.get(symbol).is_none_or(|t| t == to);
+        if one == two || !other.transitions.iter().all(agree) {
+            continue;
+        }
+        for (item, set) in other.items {
+            let held = joint.items.entry(item).or_insert(TerminalSet::EMPTY);
+            *held = held.join(set);
+        }
+        joint.transitions.extend(other.transitions);
+        let mut larger = plan.clone();
+        larger.states.push(joint);
+        let to = plan.states.len();
+        larger.states[from].transitions.extend([(one, to), (two, to)]);
+        if larger.actions().is_some() {
+            *plan = larger;
+            return;
+        }
+    }
+}
+
+/// Takes one lookahead from an item with dot 0 and more than one of them.
+pub fn drop_lookahead(plan: &mut Plan, random: &mut Random) {
+    let many = |(item, set): &(&(u8, u8), &TerminalSet)| item.1 == 0 && set.0.count_ones() > 1;
+    let states = plan.states.iter().enumerate();
+    let items: Vec<(usize, (u8, u8))> = states
+        .flat_map(|(number, state)| {
+            state.items.iter().filter(many).map(move |(&item, _)| (number, item))
+        })
+        .collect();
+    if items.is_empty() {
+        return;
+    }
+    let (number, item) = *random.pick(&items);
+    if let Some(set) = plan.states[number].items.get_mut(&item) {
+        let held: Vec<u8> = set.terminals().collect();
+        set.0 &= !TerminalSet::one(*random.pick(&held)).0;
+    }
 }
 
 /// Copies state 0 behind the others, where nothing leads to it.
