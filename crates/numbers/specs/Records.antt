@@ -79,12 +79,9 @@ pub data Told (old R : List ℕ) (m j w : ℕ) : Type 0 where
   lost : w ≡ 1 → Has R j → ((v : ℕ) → At old R m v j → ⊥) → Told old R m j w
   found : 2 ≤ w → Has R j → At old R m w j → Told old R m j w
 
--- the spot words of the first j records are told; those of 0 alone
+-- the spot words of the first j records are told
 pub record Spots (old R : List ℕ) (m : ℕ) (room : List ℕ) (j : ℕ) : Type 0 where
   pub told : (i : ℕ) → i < j → Told old R m i (spotOf room i)
-
-pub record Bares (R room : List ℕ) (j : ℕ) : Type 0 where
-  pub none : (i : ℕ) → i < j → spotOf room i ≡ 0 → Bare R i
 
 pub told-none : {old R : List ℕ} {m j w : ℕ} → Told old R m j w → w ≡ 0 → Bare R j
 told-none (bare e b) z = b
@@ -101,9 +98,6 @@ told-found (bare e b) z = absurd (omega arith)
 told-found (lost e h n) z = absurd (omega arith)
 told-found (found e h a) z = (h, a)
 
-pub bares : {old R room : List ℕ} {m j : ℕ} → Spots old R m room j → Bares R room j
-bares s = record { none = λ i h z. told-none (s .told i h) z }
-
 -- ---- pieces in pieces
 module _ {R : List ℕ} {n : ℕ} (S : Shape R n) {j : ℕ} (h : j < n) where
   pub in-self : In R j j
@@ -114,9 +108,6 @@ module _ {R : List ℕ} {n : ℕ} (S : Shape R n) {j : ℕ} (h : j < n) where
 
   pub at-in : {old : List ℕ} {m v i : ℕ} → In R j i → At old R m v j → At old R m v i
   at-in p a = record { each = λ x q. a .each x (in-in p q) }
-
-  pub has-in : {i : ℕ} → In R j i → Has R i → Has R j
-  has-in p t = record { token = t .token; inside = in-in p (t .inside); kind = t .kind }
 
 -- a piece with a token stands at one shift at most
 pub one-shift : {old R : List ℕ} {m j v w : ℕ} → OldRow old m → Has R j → At old R m v j → At old R m w j → v ≡ w

@@ -1,15 +1,15 @@
 -- Runs: records side by side that stand in the old tree at one shift, and the spot words that follow from them. A piece with tokens stands in
 -- the old tree exactly where it is in the run of its last token.
-use mathlib.Core.Path.{_≡_, refl, sym, _∙_, subst}
+use mathlib.Core.Path.{_≡_, refl}
 use mathlib.Core.List.{List}
 use Prim.Native.Nat.{ℕ, _+_, _-_, _≤_, _<_}
 use native.Mathlib.Omega.{arith}
 use native.Mathlib.Decide.{decLt}
 use lib.ListN.{set, length}
 use Rattle.machine.specs.Room.{statesAt}
-use Rattle.numbers.specs.Records.{front, kindOf, sizeOf, In, Shape, OldRow, Met, At, Has, Told, bare, lost, found, told-lost, told-found, in-self, at-in, one-shift}
+use Rattle.numbers.specs.Records.{front, kindOf, sizeOf, In, Shape, OldRow, Met, At, Has, Told, bare, lost, found, told-found, in-self, at-in, one-shift}
 use Rattle.numbers.specs.Spots.{Judging, judge-more, token-found}
-use Rattle.numbers.specs.declared.Run.{Run}
+use Rattle.numbers.specs.declared.runs.Run.{Run}
 
 -- the last token before record j stands before `last`
 pub record Last (R : List ℕ) (j last : ℕ) : Type 0 where

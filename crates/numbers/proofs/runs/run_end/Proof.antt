@@ -1,4 +1,4 @@
--- `numbers::run_end` meets its contract. The loop's invariant: the records up to e are of the run, and i is the old record at e. Assumes
+-- `runs::run_end` meets its contract. The loop's invariant: the records up to e are of the run, and i is the old record at e. Assumes
 -- nothing.
 use mathlib.Core.Path.{_≡_}
 use Prim.Native.Nat.{ℕ, _+_, _-_, _≤_}
@@ -7,8 +7,8 @@ use Rattle.theory.specs.Check.Says.{refused}
 use Rattle.numbers.specs.Records.{front}
 use Rattle.numbers.specs.Runs.{Met-all, none-met, met-on}
 use borrow.Author.Needs.{needs}
-use Rattle.numbers.proofs.run_end.Statement.{statement}
-use Rattle.numbers.proofs.run_end.Tie as tie
+use Rattle.numbers.proofs.runs.run_end.Statement.{statement}
+use Rattle.numbers.proofs.runs.run_end.Tie as tie
 
 abbrev Inv-loop : tie.InvT-loop
 Inv-loop old room m n j k e₀ i₀ e i =

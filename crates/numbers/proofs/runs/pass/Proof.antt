@@ -1,4 +1,4 @@
--- `numbers::pass` meets its contract: a token's word, or a node's. Assumes nothing.
+-- `runs::pass` meets its contract: a token's word, or a node's. Assumes nothing.
 use mathlib.Core.Path.{_≡_, refl, sym, _∙_}
 use mathlib.Core.List.{List}
 use Prim.Native.Nat.{ℕ, _+_, _≤_, _<_}
@@ -9,8 +9,8 @@ use Rattle.machine.specs.Room.{statesAt}
 use Rattle.numbers.specs.Records.{front, kindOf}
 use Rattle.numbers.specs.Runs.{Walking, pass-token, pass-node}
 use borrow.Author.Needs.{needs}
-use Rattle.numbers.proofs.pass.Statement.{statement}
-use Rattle.numbers.proofs.pass.Tie as tie
+use Rattle.numbers.proofs.runs.pass.Statement.{statement}
+use Rattle.numbers.proofs.runs.pass.Tie as tie
 
 -- the kind that is found
 token : (c : tie.After-run-start) (lent : List ℕ) → front (c .before .before .before .before .before .before .before .before .before .args .room .now) ≡ front lent → kindOf (front lent) (c .before .before .before .before .before .before .before .before .before .args .r .at) < 256

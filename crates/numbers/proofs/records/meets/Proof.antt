@@ -1,11 +1,11 @@
--- `numbers::meets` meets its contract: the place is the one that the shift leads to. Assumes nothing.
+-- `records::meets` meets its contract: the place is the one that the shift leads to. Assumes nothing.
 use mathlib.Core.Path.{_≡_}
 use Prim.Native.Nat.{_+_, _-_}
 use native.Mathlib.Omega.{arith}
 use Rattle.theory.specs.Check.Says.{says-as, says-no}
 use borrow.Author.Needs.{needs}
-use Rattle.numbers.proofs.meets.Statement.{statement}
-use Rattle.numbers.proofs.meets.Tie as tie
+use Rattle.numbers.proofs.records.meets.Statement.{statement}
+use Rattle.numbers.proofs.records.meets.Tie as tie
 
 wide-requires : tie.Need-wide-requires
 wide-requires c κs = search needs

@@ -1,11 +1,11 @@
--- `numbers::number_of` meets its contract: the word is the room's. Assumes nothing.
+-- `records::number_of` meets its contract: the word is the room's. Assumes nothing.
 use mathlib.Core.Path.{sym}
 use Prim.Native.Nat.{_+_, _*_}
 use native.Mathlib.Omega.{arith}
 use Rattle.numbers.specs.Records.{front-at}
 use borrow.Author.Needs.{needs}
-use Rattle.numbers.proofs.number_of.Statement.{statement}
-use Rattle.numbers.proofs.number_of.Tie as tie
+use Rattle.numbers.proofs.records.number_of.Statement.{statement}
+use Rattle.numbers.proofs.records.number_of.Tie as tie
 
 mul-result : tie.Need-mul-result
 mul-result c = search needs

@@ -1,4 +1,4 @@
--- `numbers::fill` meets its contract: where the run ends, and its words. Assumes nothing.
+-- `runs::fill` meets its contract: where the run ends, and its words. Assumes nothing.
 use mathlib.Core.Path.{_≡_, refl, sym, _∙_}
 use mathlib.Core.List.{List}
 use Prim.Native.Nat.{ℕ, _+_, _-_, _≤_, _<_}
@@ -6,8 +6,8 @@ use native.Mathlib.Omega.{arith}
 use Rattle.numbers.specs.Records.{front, Shape}
 use Rattle.numbers.specs.Runs.{Stops, Started, fill-none, shift-low, filling, fill-run}
 use borrow.Author.Needs.{needs}
-use Rattle.numbers.proofs.fill.Statement.{statement}
-use Rattle.numbers.proofs.fill.Tie as tie
+use Rattle.numbers.proofs.runs.fill.Statement.{statement}
+use Rattle.numbers.proofs.runs.fill.Tie as tie
 
 -- the old place of the next record is a number
 low : (c : tie.Else1) → 2050 ≤ c .before .before .before .args .r .at + c .before .before .before .args .r .shift

@@ -1,10 +1,10 @@
--- `numbers::same` meets its contract: each word is compared. Assumes nothing.
+-- `records::same` meets its contract: each word is compared. Assumes nothing.
 use mathlib.Core.Path.{sym, _∙_}
 use native.Mathlib.Omega.{arith}
 use Rattle.theory.specs.Check.Says.{says-as, says-eq, says-no}
 use borrow.Author.Needs.{needs}
-use Rattle.numbers.proofs.same.Statement.{statement}
-use Rattle.numbers.proofs.same.Tie as tie
+use Rattle.numbers.proofs.records.same.Statement.{statement}
+use Rattle.numbers.proofs.records.same.Tie as tie
 
 kind-at-requires : tie.Need-kind-at-requires
 kind-at-requires c κs = search needs

@@ -1,12 +1,12 @@
--- `numbers::find` meets its contract. The loop's invariant is `Seeking`: no record passed is the one sought. Assumes nothing.
+-- `runs::find` meets its contract. The loop's invariant is `Seeking`: no record passed is the one sought. Assumes nothing.
 use Prim.Native.Nat.{_-_}
 use native.Mathlib.Omega.{arith}
 use Rattle.numbers.specs.Records.{front}
 use Rattle.theory.specs.Check.Says.{refused}
 use Rattle.numbers.specs.Spots.{Seeking, seek-more}
 use borrow.Author.Needs.{needs}
-use Rattle.numbers.proofs.find.Statement.{statement}
-use Rattle.numbers.proofs.find.Tie as tie
+use Rattle.numbers.proofs.runs.find.Statement.{statement}
+use Rattle.numbers.proofs.runs.find.Tie as tie
 
 abbrev Inv-loop : tie.InvT-loop
 Inv-loop old room j lo hi k₀ k = Seeking old (front room) j lo hi k

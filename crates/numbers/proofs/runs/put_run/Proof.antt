@@ -1,4 +1,4 @@
--- `numbers::put_run` meets its contract. The loop's invariant: the records stand, and the words of the run are written up to j. Assumes nothing.
+-- `runs::put_run` meets its contract. The loop's invariant: the records stand, and the words of the run are written up to j. Assumes nothing.
 use mathlib.Core.Path.{_≡_, refl, sym, _∙_}
 use mathlib.Core.List.{List}
 use Prim.Native.Nat.{ℕ, _+_, _-_, _≤_, _<_}
@@ -10,8 +10,8 @@ use Rattle.numbers.specs.Records.{front, Shape, OldRow, Met}
 use Rattle.numbers.specs.Spots.{Judging, judge-more}
 use Rattle.numbers.specs.Runs.{Filling, fill-more}
 use borrow.Author.Needs.{needs}
-use Rattle.numbers.proofs.put_run.Statement.{statement}
-use Rattle.numbers.proofs.put_run.Tie as tie
+use Rattle.numbers.proofs.runs.put_run.Statement.{statement}
+use Rattle.numbers.proofs.runs.put_run.Tie as tie
 
 abbrev Inv-loop : tie.InvT-loop
 Inv-loop room₀ n a e start before w last₀ j₀ room last j =

@@ -1,9 +1,9 @@
--- `numbers::token_spot` meets its contract: one law for each way out. Assumes nothing.
+-- `runs::token_spot` meets its contract: one law for each way out. Assumes nothing.
 use mathlib.Core.Path.{sym, _∙_}
 use native.Mathlib.Omega.{arith}
 use Rattle.numbers.specs.Spots.{token-found, token-nowhere, token-inserted}
-use Rattle.numbers.proofs.token_spot.Statement.{statement}
-use Rattle.numbers.proofs.token_spot.Tie as tie
+use Rattle.numbers.proofs.runs.token_spot.Statement.{statement}
+use Rattle.numbers.proofs.runs.token_spot.Tie as tie
 
 number-of-requires : tie.Need-number-of-requires
 number-of-requires c κs =

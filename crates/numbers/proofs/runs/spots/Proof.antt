@@ -1,12 +1,12 @@
--- `numbers::spots` meets its contract. The loop's invariant is `Walking`: the words before the next record are told. Assumes nothing.
+-- `runs::spots` meets its contract. The loop's invariant is `Walking`: the words before the next record are told. Assumes nothing.
 use mathlib.Core.Path.{_≡_, refl}
 use Prim.Native.Nat.{_-_, _≤_, _<_}
 use native.Mathlib.Omega.{arith}
 use lib.ListN.{length}
 use Rattle.numbers.specs.Runs.{Walking, Started}
 use borrow.Author.Needs.{needs}
-use Rattle.numbers.proofs.spots.Statement.{statement}
-use Rattle.numbers.proofs.spots.Tie as tie
+use Rattle.numbers.proofs.runs.spots.Statement.{statement}
+use Rattle.numbers.proofs.runs.spots.Tie as tie
 
 abbrev Inv-loop : tie.InvT-loop
 Inv-loop old room₀ m n r₀ room r = Walking old room₀ m n room r

@@ -1,12 +1,12 @@
--- `numbers::run_start` meets its contract. The loop's invariant: the records from e on are of the run. Assumes nothing.
+-- `runs::run_start` meets its contract. The loop's invariant: the records from e on are of the run. Assumes nothing.
 use Prim.Native.Nat.{_≤_}
 use native.Mathlib.Omega.{arith}
 use Rattle.theory.specs.Check.Says.{refused}
 use Rattle.numbers.specs.Records.{front}
 use Rattle.numbers.specs.Runs.{Met-all, none-met, met-back}
 use borrow.Author.Needs.{needs}
-use Rattle.numbers.proofs.run_start.Statement.{statement}
-use Rattle.numbers.proofs.run_start.Tie as tie
+use Rattle.numbers.proofs.runs.run_start.Statement.{statement}
+use Rattle.numbers.proofs.runs.run_start.Tie as tie
 
 abbrev Inv-loop : tie.InvT-loop
 Inv-loop old room m j w e₀ e = (e ≤ j) × Met-all old (front room) m w e j

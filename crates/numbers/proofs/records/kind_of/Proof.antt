@@ -1,11 +1,11 @@
--- `numbers::kind_of` meets its contract: the word is the room's. Assumes nothing.
+-- `records::kind_of` meets its contract: the word is the room's. Assumes nothing.
 use mathlib.Core.Path.{sym, _∙_}
 use Prim.Native.Nat.{_*_}
 use native.Mathlib.Omega.{arith}
 use Rattle.numbers.specs.Records.{front-at}
 use borrow.Author.Needs.{needs}
-use Rattle.numbers.proofs.kind_of.Statement.{statement}
-use Rattle.numbers.proofs.kind_of.Tie as tie
+use Rattle.numbers.proofs.records.kind_of.Statement.{statement}
+use Rattle.numbers.proofs.records.kind_of.Tie as tie
 
 mul-wide : tie.Need-mul-wide
 mul-wide c = search needs

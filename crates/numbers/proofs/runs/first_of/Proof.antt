@@ -1,8 +1,8 @@
--- `numbers::first_of` meets its contract: a piece starts within the records. Assumes nothing.
+-- `runs::first_of` meets its contract: a piece starts within the records. Assumes nothing.
 use native.Mathlib.Omega.{arith}
 use borrow.Author.Needs.{needs}
-use Rattle.numbers.proofs.first_of.Statement.{statement}
-use Rattle.numbers.proofs.first_of.Tie as tie
+use Rattle.numbers.proofs.runs.first_of.Statement.{statement}
+use Rattle.numbers.proofs.runs.first_of.Tie as tie
 
 add-result : tie.Need-add-result
 add-result c = search needs
