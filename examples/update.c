@@ -3,8 +3,8 @@
  * where the number is new; and the numbers that are gone.
  *
  *     rt staticlib boundary
- *     gcc -I include examples/update.c target/staticlib/libboundary.a -o /tmp/update
- *     /tmp/update tables/house.lrt
+ *     gcc -I include examples/update.c target/staticlib/libboundary.a -o update
+ *     ./update tables/house.lrt
  *
  * examples/update.txt is what it prints.
  */

@@ -1,5 +1,5 @@
-// The moves of an update, as document 01 has them: the reductions that a piece's first token calls for, whole shifts with their right-breaks,
-// left-breaks, and the turns of tokens and the end mark by the machine that reads afresh.
+// The moves of an update, as document 01 has them: the reductions that the next terminal calls for, whole shifts with their right-breaks,
+// left-breaks, and the turns of tokens and the end mark, by the shifts and reductions of the machine that reads afresh.
 ghost use mathlib.Core.Path.{_≡_};
 ghost use mathlib.Core.List.{List};
 ghost use mathlib.Core.Option.{some};
