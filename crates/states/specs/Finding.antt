@@ -4,8 +4,8 @@ use mathlib.Core.List.{List}
 use Prim.Native.Nat.{ℕ, _<_}
 use Rattle.definitions.specs.Sheet.{count}
 use Rattle.definitions.specs.States.{HasItem}
-use Rattle.states.specs.declared.Found.{Found}
-use Rattle.states.specs.declared.Found.the-variants.{At, Nothing}
+use Rattle.states.specs.declared.items.Found.{Found}
+use Rattle.states.specs.declared.items.Found.the-variants.{At, Nothing}
 use Rattle.states.specs.Places.{IsItem}
 
 -- the item where (p,d) stands, or that it is not in s

@@ -2,155 +2,25 @@
 // the answer on any lent bytes. What is built once, the productions, FIRST and the places of the states, is lent by reference.
 ghost use mathlib.Core.Path.{_≡_};
 ghost use Prim.Native.Nat.{ℕ, _+_, _<_};
-ghost use Rattle.definitions.specs.Sheet.{P, S, T, N, IsSymbol, count, Layout};
+ghost use Rattle.definitions.specs.Sheet.{S, T, N, IsSymbol, count, Layout};
 ghost use Rattle.definitions.specs.Grammar.{GrammarRules};
 ghost use Rattle.theory.specs.Check.Says.{Says};
 ghost use Rattle.theory.specs.Answers.{check};
 ghost use Rattle.theory.specs.Demands.Calls.{Checks};
-ghost use Rattle.grammar.specs.Productions.{Rows, Lefts, Rights};
+ghost use Rattle.grammar.specs.Productions.{Rows, Rights};
 ghost use Rattle.states.specs.Places.{Lies, Starts};
 ghost use Rattle.states.specs.Gathering.{Exactly, Among, AfterTerminal, AfterNonterminal, Done};
 ghost use Rattle.states.specs.Weak.{WeakAction, WeakGoto, Weak5};
 ghost use Rattle.states.specs.Dots.{Dots};
 ghost use Rattle.states.specs.Chains.{Condition7At};
-ghost use Rattle.states.specs.Zeros.{Zeros};
 ghost use Rattle.table.specs.Lent.{Lent, Begun};
-ghost use Rattle.table.specs.Needs.{Side, Needed, Needs, Met, Condition2At};
 ghost use Rattle.table.specs.Codes.{Tells, Moves, Into, Condition6From, Kept, BrokenAt};
 ghost use Rattle.table.specs.Search.{Searched};
 ghost use Rattle.table.specs.Answer.{number, Named};
 use terminals::Terminals;
 
-// ---- condition 2
-
-// The nonterminal after the dot of item i; 0 where there is none.
-fn side_at(
-    t: &[u8],
-    s: usize,
-    at: usize,
-    n: usize,
-    i: usize,
-    rows: &[[u8; 8]; 200],
-    lens: &[u8; 200],
-) -> usize
-    requires { ⌜ Lies (now t) s at n × (i < n) ⌝ }
-    requires { ⌜ Rights (now t) (now rows) (now lens) ⌝ }
-    ensures { λ r. ⌜ Side (now (t .entry)) s i r ⌝ }
-{
-    let x = states::after_at(t, s, at, n, i, rows, lens);
-    if x < 128 {
-        return 0;
-    }
-    if x == 255 { 0 } else { sheet::wide(x - 128) }
-}
-
-// What item i needs of the productions of the nonterminal after its dot: FIRST of what follows, and then its set.
-pub fn need_at(
-    t: &[u8],
-    s: usize,
-    at: usize,
-    n: usize,
-    i: usize,
-    rows: &[[u8; 8]; 200],
-    lens: &[u8; 200],
-    firsts: &[u64; 64],
-    nullable: Terminals,
-) -> Terminals
-    requires { ⌜ Lies (now t) s at n × (i < n) ⌝ }
-    requires { ⌜ Rights (now t) (now rows) (now lens) × Begun (now t) (now firsts) (nullable .bits) ⌝ }
-    ensures { λ r. ⌜ Exactly (r .bits) (Needed (now (t .entry)) s i) ⌝ }
-{
-    let x = states::after_at(t, s, at, n, i, rows, lens);
-    if x < 128 {
-        return Terminals::EMPTY;
-    }
-    if x == 255 {
-        return Terminals::EMPTY;
-    }
-    let p = states::prod_of(t, s, at, n, i);
-    let d = states::dot_of(t, s, at, n, i) + 1;
-    let set = states::ahead_of(t, s, at, n, i);
-    grammar::first::first_of(t, rows, lens, firsts, nullable, p, d, set)
-}
-
-// What the items of s need of the productions of each nonterminal.
-pub fn needs_of(
-    t: &[u8],
-    s: usize,
-    at: usize,
-    n: usize,
-    rows: &[[u8; 8]; 200],
-    lens: &[u8; 200],
-    firsts: &[u64; 64],
-    nullable: Terminals,
-) -> [u64; 64]
-    requires { ⌜ Lies (now t) s at n ⌝ }
-    requires { ⌜ Rights (now t) (now rows) (now lens) × Begun (now t) (now firsts) (nullable .bits) ⌝ }
-    ensures { λ r. ⌜ Needs (now (t .entry)) s r ⌝ }
-{
-    let mut sets = [0u64; 64];
-    for i in 0..n {
-        let m = side_at(t, s, at, n, i, rows, lens);
-        let old = Terminals::of(sets[m]);
-        let more = old.join(need_at(t, s, at, n, i, rows, lens, firsts, nullable));
-        sets[m] = more.bits;
-    }
-    sets
-}
-
-// Has (q,0) what is needed of production q? An item that is not there has the empty set.
-fn met(
-    t: &[u8],
-    s: usize,
-    q: usize,
-    lefts: &[u8; 200],
-    needs: &[u64; 64],
-    zeros: &[u64; 200],
-) -> bool
-    requires { ⌜ Layout (now t) × Lefts (now t) (now lefts) × (q < P (now t)) ⌝ }
-    requires { ⌜ Needs (now t) s (now needs) × Zeros (now t) s (now zeros) ⌝ }
-    ensures { λ r. ⌜ Says r (Met (now (t .entry)) s q) ⌝ }
-{
-    let m = sheet::wide(grammar::productions::left_at(t, lefts, q));
-    let need = Terminals::of(needs[m]);
-    need.within(Terminals::of(zeros[q]))
-}
-
-// Condition 2 at s, by what its items need and what its items (q,0) have.
-pub fn closed(t: &[u8], s: usize, lefts: &[u8; 200], needs: &[u64; 64], zeros: &[u64; 200]) -> bool
-    requires { ⌜ Layout (now t) × Lefts (now t) (now lefts) × (s < S (now t)) ⌝ }
-    requires { ⌜ Needs (now t) s (now needs) × Zeros (now t) s (now zeros) ⌝ }
-    ensures { λ r. ⌜ Says r (Condition2At (now (t .entry)) s) ⌝ }
-{
-    let last = sheet::productions_of(t);
-    for q in 0..last {
-        if !met(t, s, q, lefts, needs, zeros) {
-            return false;
-        }
-    }
-    true
-}
-
-// Condition 2 at s.
-fn closed_at(
-    t: &[u8],
-    s: usize,
-    at: usize,
-    n: usize,
-    rows: &[[u8; 8]; 200],
-    lens: &[u8; 200],
-    lefts: &[u8; 200],
-    firsts: &[u64; 64],
-    nullable: Terminals,
-) -> bool
-    requires { ⌜ Lies (now t) s at n ⌝ }
-    requires { ⌜ Lent (now t) (now rows) (now lens) (now lefts) × Begun (now t) (now firsts) (nullable .bits) ⌝ }
-    ensures { λ r. ⌜ Says r (Condition2At (now (t .entry)) s) ⌝ }
-{
-    let needs = needs_of(t, s, at, n, rows, lens, firsts, nullable);
-    let zeros = states::zeros(t, s, at, n);
-    closed(t, s, lefts, &needs, &zeros)
-}
+// condition 2 of one state
+mod closure;
 
 // ---- conditions 5 and 6: the transitions of s
 
@@ -167,13 +37,13 @@ fn into_right(
     requires { ⌜ Starts (now t) (now starts) × Rows (now t) (now rows) × Dots (now t) s (now dots) ⌝ }
     ensures { λ r. ⌜ Says r (Into (now (t .entry)) s x) ⌝ }
 {
-    let u = states::target(t, s, x);
+    let u = states::items::target(t, s, x);
     if u == 255 {
         return true;
     }
-    let at = states::place_of(t, starts, u);
+    let at = states::items::place_of(t, starts, u);
     let n = sheet::count(t, at);
-    states::entered(t, u, at, n, s, x, rows, dots)
+    states::entering::entered(t, u, at, n, s, x, rows, dots)
 }
 
 // The action on a: 5 where condition 5 is broken, 6 where 6 is, else 0.
@@ -193,7 +63,7 @@ pub fn action_code(
     requires { ⌜ Exactly (ended .bits) (Among (Done (now t) s) (count (now t) s)) ⌝ }
     ensures { λ r. ⌜ Moves (WeakAction (now (t .entry)) s a) (Into (now (t .entry)) s a) r ⌝ }
 {
-    if !states::action_kept(t, s, a, afters, ended) {
+    if !states::moves::action_kept(t, s, a, afters, ended) {
         return 5;
     }
     if into_right(t, s, a as u8, starts, rows, dots) {
@@ -218,7 +88,7 @@ pub fn goto_code(
     requires { ⌜ Exactly (afters .bits) (Among (AfterNonterminal (now t) s) (count (now t) s)) ⌝ }
     ensures { λ r. ⌜ Moves (WeakGoto (now (t .entry)) s m) (Into (now (t .entry)) s (128 + m)) r ⌝ }
 {
-    if !states::goto_kept(t, s, m, afters) {
+    if !states::moves::goto_kept(t, s, m, afters) {
         return 5;
     }
     if into_right(t, s, (128 + m) as u8, starts, rows, dots) {
@@ -294,14 +164,14 @@ fn moves_code(
     requires { ⌜ Starts (now t) (now starts) × Rights (now t) (now rows) (now lens) ⌝ }
     ensures { λ r. ⌜ Moves (Weak5 (now (t .entry)) s) (Condition6From (now (t .entry)) s) r ⌝ }
 {
-    let dots = states::dots_of(t, s, at, n);
-    let shifts = states::afters_t(t, s, at, n, rows, lens);
-    let ended = states::done(t, s, at, n, lens);
+    let dots = states::entering::dots_of(t, s, at, n);
+    let shifts = states::moves::afters_t(t, s, at, n, rows, lens);
+    let ended = states::moves::done(t, s, at, n, lens);
     let c = actions_code(t, s, starts, rows, &dots, shifts, ended);
     if c != 0 {
         return c;
     }
-    let afters = states::afters_n(t, s, at, n, rows, lens);
+    let afters = states::moves::afters_n(t, s, at, n, rows, lens);
     gotos_code(t, s, starts, rows, &dots, afters)
 }
 
@@ -320,8 +190,8 @@ fn chained(
     requires { ⌜ Lies (now t) s at n × Lent (now t) (now rows) (now lens) (now lefts) ⌝ }
     ensures { λ r. ⌜ Says r (Condition7At (now (t .entry)) s) ⌝ }
 {
-    let set = states::led(t, s, at, n, rows, lens, lefts);
-    states::chains_right(t, s, at, n, lefts, set)
+    let set = states::chains::led(t, s, at, n, rows, lens, lefts);
+    states::chains::chains_right(t, s, at, n, lefts, set)
 }
 
 // What is judged once of s: the number of a condition that is broken there, of 1, 7, 2, 5 and 6, or 0.
@@ -341,13 +211,13 @@ fn state_code(
     requires { ⌜ Lent (now t) (now rows) (now lens) (now lefts) × Begun (now t) (now firsts) (nullable .bits) ⌝ }
     ensures { λ r. ⌜ Tells (Kept (now (t .entry)) s) (BrokenAt (now (t .entry)) s) r ⌝ }
 {
-    if !states::first_right(t, s, at, n) {
+    if !states::firsts::first_right(t, s, at, n) {
         return 1;
     }
     if !chained(t, s, at, n, rows, lens, lefts) {
         return 7;
     }
-    if !closed_at(t, s, at, n, rows, lens, lefts, firsts, nullable) {
+    if !closure::closed_at(t, s, at, n, rows, lens, lefts, firsts, nullable) {
         return 2;
     }
     moves_code(t, s, at, n, starts, rows, lens)
@@ -379,18 +249,18 @@ pub fn first_broken(
     let marks = sheet::terminals_of(t);
     let broken = 'search: loop {
         for s in 0..last {
-            let at = states::place_of(t, starts, s);
+            let at = states::items::place_of(t, starts, s);
             let n = sheet::count(t, at);
             let c = state_code(t, s, at, n, starts, rows, lens, lefts, firsts, nullable);
             if c != 0 {
                 break 'search Broken::At(c, s);
             }
             for i in 0..n {
-                if !states::moves_on(t, s, at, n, i, starts, rows, lens) {
+                if !states::moves::moves_on(t, s, at, n, i, starts, rows, lens) {
                     break 'search Broken::At(3, s);
                 }
                 for a in 0..marks {
-                    if !states::ahead_right(t, s, at, n, i, a, lens) {
+                    if !states::moves::ahead_right(t, s, at, n, i, a, lens) {
                         break 'search Broken::At(4, s);
                     }
                 }
@@ -432,7 +302,7 @@ pub fn check_table(table: &[u8]) -> Check
     }
     let nullable = grammar::least::nullable(table, &rows, &lens, &lefts);
     let firsts = grammar::first::firsts(table, &rows, &lens, &lefts, nullable);
-    let starts = states::starts_of(table);
+    let starts = states::items::starts_of(table);
     let found = first_broken(table, &starts, &rows, &lens, &lefts, &firsts, nullable);
     match found {
         Broken::Nothing => Check::Yes,

@@ -17,8 +17,8 @@ use Rattle.theory.specs.Records.Stand.{at-in}
 use Rattle.machine.specs.Room.{Holds}
 use Rattle.updating.specs.Records.{Reads}
 use Rattle.updating.specs.Copy.{Copied, Rooted, rooted, copied-all}
-use Rattle.updating.specs.declared.Whole.{Whole}
-use Rattle.updating.specs.declared.Whole.the-variants.{Held, Full}
+use Rattle.updating.specs.declared.shifting.Whole.{Whole}
+use Rattle.updating.specs.declared.shifting.Whole.the-variants.{Held, Full}
 
 -- the run is of the piece q over c, which has tokens, and the room holds σ
 pub record Ripe (G : Table) (run r : List ℕ) (n : ℕ) (σ : Stack) (q : ℕ) (c : Row) : Type 0 where

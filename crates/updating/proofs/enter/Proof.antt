@@ -11,7 +11,7 @@ use Rattle.definitions.specs.Moves.{tokened}
 use Rattle.theory.specs.Table.Sides.{prods-is}
 use Rattle.machine.specs.Lookups.{gotoIs}
 use Rattle.list.specs.Pieces.{root, inside}
-use Rattle.updating.specs.declared.Whole.{Whole}
+use Rattle.updating.specs.declared.shifting.Whole.{Whole}
 use Rattle.updating.specs.Shift.{Shifts}
 use Rattle.updating.specs.Turns.{Facing, ripe, opens, short, left-broken, shifted-whole, no-room, above-list, above-states}
 use borrow.Author.Needs.{needs}
