@@ -9,14 +9,26 @@ ghost use Rattle.definitions.specs.Answers as Answers;
 ghost use Rattle.definitions.specs.Answers.{cleared, TextInOrder};
 ghost use Rattle.theory.specs.Check.Says.{Says};
 ghost use Rattle.theory.specs.Edits.EditsD.{text-in};
-ghost use Rattle.theory.specs.Answers.{readText, afresh, update};
-ghost use Rattle.theory.specs.Demands.Calls.{Afreshed, UpdatedAll};
+ghost use Rattle.theory.specs.Answers.{check, readText, afresh, update};
+ghost use Rattle.theory.specs.Demands.Calls.{Checks, Afreshed, UpdatedAll};
+ghost use Rattle.table.specs.Answer.{number, Named};
 ghost use Rattle.answers.specs.Values.{valueOf};
 ghost use Rattle.reading.specs.Fresh.{told};
 ghost use Rattle.edit_lists.specs.Words.{wordsOf};
 ghost use Rattle.blenkysnow.specs.Stages.{Long, OldTokens, Begun, Handed, Ended};
 use answers::Answer;
 use table::Check;
+
+// ---- the table
+
+// Is the table taken, and if not, which refusal is it: 2, 3 or 4?
+pub fn check_table(table: &[u8]) -> Check
+    ensures { λ r. ⌜ number r ≡ check (now (table .entry)) ⌝ }
+    ensures { λ r. ⌜ Checks (now (table .entry)) (number r) ⌝ }
+    ensures { λ r. ⌜ Named (now (table .entry)) r ⌝ }
+{
+    table::check_table(table)
+}
 
 // ---- what is lent
 

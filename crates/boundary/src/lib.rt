@@ -26,7 +26,7 @@ pub extern "C" fn blenkysnow_check(table: &[u8], broken: &mut [u32; 2]) -> u32
     ensures { λ r. ⌜ Checked (now (table .entry)) r (now (broken .exit)) ⌝ }
 {
     *broken = [0, 0];
-    let found = table::check_table(table);
+    let found = blenkysnow::check_table(table);
     match found {
         Check::Yes => 0,
         Check::Layout => 2,

@@ -56,7 +56,7 @@ fn check_case(named: bool, table: &mut [u8]) -> bool {
     let g = input::read_bytes(table);
     match g {
         Got::Broken => malformed(),
-        Got::Number(n) => tell_check(named, table::check_table(&table[..n])),
+        Got::Number(n) => tell_check(named, blenkysnow::check_table(&table[..n])),
     }
 }
 
