@@ -1,5 +1,7 @@
 // What a call of document 01 answers, as an enum with a case for each row of "Numbers of refusal" and one for acceptance. The
 // number, place and counts that the document has for each case are said once, by `value_of` of specs/Values.antt.
+#![tactic(auto)]
+
 ghost use Rattle.std.specs.Prelude.{◌≡◌};
 ghost use Rattle.definitions.specs.Reading.{zeros};
 ghost use Rattle.definitions.specs.Answers.{counts_of as countsIn};

@@ -1,4 +1,6 @@
 // The public calls over lent rows. Nothing is asked of what is lent: each call judges it, in document 01's order of refusals.
+#![tactic(auto)]
+
 ghost use Rattle.std.specs.Prelude.{◌≡◌, ◌≤◌, ◌<◌, length, drop};
 ghost use Rattle.definitions.specs.Sheet.{T, Layout};
 ghost use Rattle.definitions.specs.States.{Accepted};

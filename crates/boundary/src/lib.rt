@@ -1,5 +1,7 @@
 // The boundary: the calls as functions that C and Rust link, over pointers and lengths. include/blenkysnow.h declares them. Each makes the
 // call of the crates below, returns the refusal's number and writes what else is answered into a small row of fixed length.
+#![tactic(auto)]
+
 ghost use Rattle.std.specs.Prelude.{◌≡◌};
 ghost use Rattle.definitions.specs.House.{house};
 ghost use Rattle.theory.specs.Answers.{afresh, update};

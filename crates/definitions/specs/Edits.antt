@@ -1,7 +1,7 @@
 -- Document 01, "Updating": edits and their rules (else refusal 6), the edited text, clean pieces and the reading list.
 use Rattle.std.specs.Prelude.{◌≡◌, Bool, true, false, ◌&&◌, ◌||◌, not, cond, List, [], ◌∷◌, ◌++◌, ℕ, zero, suc, ◌+◌, ◌≤◌, ◌<◌, leb, ltb, eqb, length, take, drop}
 use Rattle.definitions.specs.Sheet.{T}
-use Rattle.definitions.specs.Tree.{Tok, mk, Row, ∅, tok, nod, ◌⧺◌, row, yield}
+use Rattle.definitions.specs.Tree.{Tok, mk, Row, ∅, tok, nod, ◌⧺◌, yield}
 
 -- "Each edit is a record of place, tokens removed, tokens put in (32-bit numbers; lent as a row of words, a part of a record at the
 -- end breaks the rules)."

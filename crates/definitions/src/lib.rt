@@ -1,1 +1,2 @@
 // Document 01 as definitions. No code: what a reader must believe stands in specs/.
+#![tactic(auto)]

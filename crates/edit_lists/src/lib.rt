@@ -1,5 +1,7 @@
 // The edits of an update as a lent slice of structs: the same calls as of crate edits over a row of words. A function that holds the slice is
 // outside the prover's own walk, so there are two, each a loop that hands one edit on by value, and both are proved by hand.
+#![tactic(auto)]
+
 ghost use Rattle.std.specs.Prelude.{◌≡◌, List, ℕ, ◌≤◌, length, drop};
 ghost use Rattle.definitions.specs.Sheet.{T, Layout};
 ghost use Rattle.definitions.specs.Tree.{Tok, yield, NRow, erase, InOrder};

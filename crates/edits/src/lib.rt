@@ -1,4 +1,6 @@
 // The edits of an update over lent rows: whether they are in order, what they put in and remove by places, and the reading list.
+#![tactic(auto)]
+
 ghost use Rattle.std.specs.Prelude.{◌≡◌, List, ℕ, ◌+◌, ◌≤◌, ◌<◌, length, get_or, drop};
 ghost use Rattle.definitions.specs.Sheet.{T, Layout};
 ghost use Rattle.definitions.specs.Tree.{Tok, yield, NRow, erase, InOrder};

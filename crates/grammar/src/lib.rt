@@ -1,5 +1,6 @@
 // The grammar of a table sheet: its productions by value, document 01's grammar rules, and FIRST. Everything stands under the
 // caller's judgement that the sheet is well laid out.
+#![tactic(auto)]
 
 // the productions: rows of eight symbols, lengths and left sides
 pub mod productions;

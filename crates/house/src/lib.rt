@@ -1,5 +1,7 @@
 // The house table as one constant of 320 bytes. Its acceptance is shown once over the whole of it, in the theory
 // (Check/HouseAccepted): what is lent here is that very table.
+#![tactic(auto)]
+
 ghost use Rattle.std.specs.Prelude.{◌≡◌};
 ghost use Rattle.definitions.specs.House.{house};
 ghost use Rattle.definitions.specs.States.{Accepted};

@@ -9,6 +9,8 @@
 // N, V: a number of times, then as R or as U. The call is made so many times over the same rows, which serves to time it.
 // L: as U without the words lent. It prints the reading list that the library makes of the update, on the line of listed.rt.
 // Malformed input prints `input` and stops.
+#![tactic(auto)]
+
 mod input;
 mod listed;
 mod told;

@@ -1,5 +1,7 @@
 // Is a lent run of bytes a table sheet that is well laid out and in range? `laid_out` answers exactly that, of any bytes: each
 // function tests one part of the definitions' `Layout`, and none reads past the end.
+#![tactic(auto)]
+
 ghost use Rattle.std.specs.Prelude.{◌≡◌, List, ℕ, ◌+◌, ◌*◌, ◌^◌, ◌≤◌, ◌<◌, length};
 ghost use Rattle.definitions.specs.Sheet.{T, N, P, S, items_at, state_at, item_at, Between, Head, IsSymbol, IsAction, IsGoto, Production, Item, Rises, State, Layout};
 ghost use Rattle.theory.specs.Check.Says.{Says};

@@ -1,5 +1,7 @@
 // What document 01's small program prints, as a function on rows: the bytes of its standard input in, the bytes of its standard output
 // out. specs/Program.antt says what they are.
+#![tactic(auto)]
+
 ghost use Rattle.std.specs.Prelude.{◌≡◌, [], ◌∷◌, ◌++◌, ◌+◌, ◌*◌, ◌≤◌, ◌<◌, length, take, get_or};
 ghost use Rattle.theory.specs.Check.Says.{Says};
 ghost use Rattle.theory.specs.Answers.{afresh};

@@ -1,5 +1,7 @@
 // The reading list of an update, in the working room: places of pieces in the old row and of codes in the inserted row, never copies of
 // them. specs/Pending.antt says how the room holds it.
+#![tactic(auto)]
+
 ghost use Rattle.std.specs.Prelude.{◌≡◌, List, ℕ, ◌+◌, ◌-◌, ◌*◌, ◌≤◌, ◌<◌, length, get_or, set};
 ghost use Rattle.definitions.specs.Sheet.{T};
 ghost use Rattle.definitions.specs.Tree.{Row, toks, yield, look};

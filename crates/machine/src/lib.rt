@@ -1,5 +1,7 @@
 // The machine of document 01 over a lent working room: the table's actions and gotos, a record put on, pieces taken off by their
 // sizes, a shift, a reduction, and the wiping of the room. specs/Room.antt says how the room holds the stack.
+#![tactic(auto)]
+
 ghost use Rattle.std.specs.Prelude.{◌≡◌, ◌+◌, ◌-◌, ◌*◌, ◌≤◌, ◌<◌, length, drop};
 ghost use Rattle.definitions.specs.Sheet.{P, Layout};
 ghost use Rattle.definitions.specs.Table.{act_of, goto_of, table_of};

@@ -1,5 +1,7 @@
 // Kept numbers: the numbers of an accepted new tree, by document 01's rule, and the tree written. The room holds the new tree's records;
 // each gets a spot word, which says where in the old tree its piece stands. All is linear in the nodes.
+#![tactic(auto)]
+
 ghost use Rattle.std.specs.Prelude.{◌≡◌, ◌+◌, ◌-◌, ◌*◌, ◌≤◌, ◌<◌, length, get_or, drop, set};
 ghost use Rattle.definitions.specs.Tree.{Row, size, NRow, erase};
 ghost use Rattle.theory.specs.Check.Says.{Says};

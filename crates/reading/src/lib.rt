@@ -1,5 +1,7 @@
 // A text of tokens read afresh over lent rows, as document 01 has it: the machine's turns over the codes, the tree's words, and the
 // room wiped. The table is accepted, the text in order and room enough lent; the caller has judged that.
+#![tactic(auto)]
+
 ghost use Rattle.std.specs.Prelude.{◌≡◌, List, ℕ, ◌+◌, ◌-◌, ◌≤◌, ◌<◌, length, get_or, drop, set};
 ghost use Rattle.definitions.specs.Sheet.{T, Layout};
 ghost use Rattle.definitions.specs.States.{Accepted};

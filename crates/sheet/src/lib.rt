@@ -1,5 +1,7 @@
 // The lent table sheet, read where it stands: each function answers what the definitions say of the sheet's bytes, and asks only
 // that the place lies within the sheet. That the places of a sheet well laid out do is said in specs/Within.antt.
+#![tactic(auto)]
+
 ghost use Rattle.std.specs.Prelude.{◌≡◌, ◌+◌, ◌*◌, ◌≤◌, ◌<◌, length};
 ghost use Rattle.definitions.specs.Sheet.{byte, word, eight, T, N, P, S, left, len, symbol, actions_at, gotos_at, items_at, action, goto};
 ghost use Rattle.sheet.specs.Places.{action_at, goto_at};

@@ -1,5 +1,7 @@
 // Document 01's small program: standard input whole, the lines that `lines::answer` makes of it, standard output. The longest input that
 // is not too long has 131,078 bytes; one byte more is read, so that a longer one is seen to be too long.
+#![tactic(auto)]
+
 ghost use Rattle.std.specs.Prelude.{◌≡◌, length};
 
 // Room for the input: two lengths, a table and codes of 65,535 bytes each, four bytes, and one byte more.

@@ -1,5 +1,6 @@
 // One state of a sheet well laid out, judged: each function answers what one of the state conditions says of it. `s` is the state,
 // `at` its place in the sheet and `n` the count of its items; the productions are lent as rows of symbols, lengths and left sides.
+#![tactic(auto)]
 
 // the states and their items
 pub mod items;

@@ -1,5 +1,7 @@
 // The check of a whole table: condition 2 and the transitions of one state, the search over the states for a broken condition, and
 // the answer on any lent bytes. What is built once, the productions, FIRST and the places of the states, is lent by reference.
+#![tactic(auto)]
+
 ghost use Rattle.std.specs.Prelude.{◌≡◌, ℕ, ◌+◌, ◌<◌};
 ghost use Rattle.definitions.specs.Sheet.{S, T, N, IsSymbol, count, Layout};
 ghost use Rattle.definitions.specs.Grammar.{GrammarRules};

@@ -1,5 +1,7 @@
 // Sets of terminals, as document 01 has them in a table's items: terminal a has worth 2^a. What each operation does is said by
 // what the set holds.
+#![tactic(auto)]
+
 ghost use Rattle.std.specs.Prelude.{◌≡◌, ◌^◌, ◌<◌};
 ghost use Rattle.definitions.specs.States.{Holds};
 ghost use Rattle.theory.specs.Check.Says.{Says};

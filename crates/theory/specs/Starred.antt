@@ -13,7 +13,6 @@ use Rattle.definitions.specs.Answers.{accepted, Told, cleared, refuse}
 use Rattle.theory.specs.Answers.{read_text, read_list, afresh, afresh_in, update, update_in, enough, taken_on}
 use Rattle.definitions.specs.States.{Accepted}
 use Rattle.definitions.specs.Examples.{Question, read as ask, edit, Reply, gives, refuses, Example, starred}
-use Rattle.theory.specs.Check.LayoutTest.{layout}
 use Rattle.theory.specs.Check.Judge.{judged}
 use Rattle.theory.specs.Tree.Build.{build}
 use Rattle.theory.specs.Tree.InOrderD.{tree_in}

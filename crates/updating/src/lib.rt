@@ -1,5 +1,7 @@
 // The moves of an update, as document 01 has them: the reductions that the next terminal calls for, whole shifts with their right-breaks,
 // left-breaks, and the turns of tokens and the end mark, by the shifts and reductions of the machine that reads afresh.
+#![tactic(auto)]
+
 ghost use Rattle.std.specs.Prelude.{◌≡◌, List, ℕ, ◌-◌, ◌≤◌, ◌<◌, length, get_or, drop};
 ghost use Rattle.definitions.specs.Sheet.{P, Layout};
 ghost use Rattle.definitions.specs.Table.{table_of};

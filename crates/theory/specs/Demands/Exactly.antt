@@ -14,7 +14,6 @@ use Rattle.theory.specs.Demands.Afresh.{Fresh, read, seven, eight, nine, FreshNu
 use Rattle.theory.specs.Demands.Update.{Updated, updated}
 use Rattle.theory.specs.Demands.Update as up
 use Rattle.theory.specs.Demands.Calls.{Checks, takes, two, three, four, Judges, one, next, ReadsText, six, reads, afresh_answers, ReadsList, five, update_answers}
-use Rattle.theory.specs.Demands.Calls as calls
 
 -- ---- the check
 pub takes_exactly : {t : List ℕ} {n : ℕ} → Checks t n → ((n ≡ 0) → Accepted t) × (Accepted t → n ≡ 0)

@@ -98,16 +98,16 @@ module _ (G : Table) where
 
     -- whatever item the top state has, the stack and a derivation of what follows the item's dot go on to a derived text:
     -- from what is so of lower stacks
-    up : {p d : ℕ} {f : Row} (β : Stack) → ((q : ℕ) (k : Row) (α : Stack) → height α < height β → Good G α → Chain G (top α) q 0 → Der G k (G.rhs q) → Begun (text α (yield k)))
+    up : (β : Stack) {p d : ℕ} {f : Row} → ((q : ℕ) (k : Row) (α : Stack) → height α < height β → Good G α → Chain G (top α) q 0 → Der G k (G.rhs q) → Begun (text α (yield k)))
         → Good G β → Chain G (top β) p d → Der G f (drop d (G.rhs p)) → Begun (text β (yield f))
     up β ih g (origin i) D = root β refl i g D
-    up {f = f} β ih g (kernel {p = p} {d = d} i) D =
+    up β {f = f} ih g (kernel {p = p} {d = d} i) D =
         let b = based G R C (suc d) β f g i D in
         let k = ih p b.row b.base (omega (arith, pop-height (suc d) β f b.is)) b.good (chain_of b.item) b.der in
         rw append-nil at (subst Begun (b.same []) (rw append-nil k))
-    up {f = f} β ih g (link {p = p} {d = d} {q = q} {γ = γ} c A i) D =
+    up β {f = f} ih g (link {p = p} {d = d} {q = q} {γ = γ} c A i) D =
         let r = derivable G R C p (suc d) γ (drop_tail (G.rhs p) d A.is) in
-        by r (λ P. up {f = nod q f r.0} β ih g c (rw A.is (dnod P D r.1))) (dec_lt 0 q)
+        by r (λ P. up β {f = nod q f r.0} ih g c (rw A.is (dnod P D r.1))) (dec_lt 0 q)
       where
         by : (r : (h : Row) × Der G h γ) → (Prod G q → Begun (text β (yield f ++ yield r.0))) → Dec (0 < q) → Begun (text β (yield f))
         by r k (yes h) = shorten (text β (yield f)) (yield r.0) (rw text-append at (k (record { above = h; below = R.exist i })))

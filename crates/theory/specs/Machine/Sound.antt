@@ -97,7 +97,7 @@ module _ (G : Table) where
       )
 
   module _ (R : Rules G) (C : Conditions G) where
-    pub based : {p a : ℕ} (d : ℕ) (σ : Stack) (f : Row) → Good σ → G.Item (top σ) p d a → Der G f (drop d (G.rhs p)) → Based p d σ f
+    pub based : {p : ℕ} (d : ℕ) {a : ℕ} (σ : Stack) (f : Row) → Good σ → G.Item (top σ) p d a → Der G f (drop d (G.rhs p)) → Based p d σ f
     based zero σ f g i D = record { row = f; base = σ; is = refl; good = g; ahead = _; item = i; der = D; same = λ w. refl }
     based (suc d) bot f g i D = absurd (C.c1_dot i)
     based (suc d) (push σ s (leaf x)) f (gleaf g e) i D =

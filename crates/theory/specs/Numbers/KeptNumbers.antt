@@ -4,7 +4,7 @@ use Rattle.std.specs.Prelude.{◌≡◌, refl, List, [], ◌∷◌, ℕ, suc, �
 use Rattle.std.proofs.Common.{sym, ap, ◌∙◌, subst, arith}
 use Rattle.definitions.specs.Table.{Sym, nt, Table}
 use Rattle.definitions.specs.Tree.{mk, Row, ∅, tok, nod, size, yield, toks, Der, d∅, dtok, dnod, NRow, ε, ntok, nnod, erase, Fit, nums}
-use Rattle.definitions.specs.Numbers.{Sub, here, under, later, past, forget, news, Rises, Nothing, Cover, ctok, ccopy, ckeep, cnew, Kept, the_same, by_rule}
+use Rattle.definitions.specs.Numbers.{Sub, here, under, later, past, forget, news, Rises, Nothing, Cover, cε, ctok, ccopy, ckeep, cnew, Kept, the_same, by_rule}
 use Rattle.theory.specs.Numbers.Number.{Verdict, new!, judge, number, renumber}
 use Rattle.theory.specs.Numbers.Counting.{sub-size, length-nums}
 use Rattle.theory.specs.Numbers.Seek.{numbered, unique}
@@ -29,7 +29,8 @@ whence_up : {old d c r : NRow} {n q i : ℕ} → ((p j : ℕ) (e : NRow) → Sub
 whence_up g (whole s t u v) = whole s t (g _ _ _ u) v
 whence_up g (fresh h) = fresh h
 
-pub cover_whence : {old r : NRow} {n : ℕ} → Cover old Nothing n r → {q i : ℕ} {d : NRow} → Sub q i d r → Whence old n q i d r
+pub cover_whence : {old : NRow} {n : ℕ} {r : NRow} → Cover old Nothing n r → {q i : ℕ} {d : NRow} → Sub q i d r → Whence old n q i d r
+cover_whence cε s = elim s [ ]
 cover_whence (ctok C) (past s) = whence_up (λ p j e u. past u) (cover_whence C s)
 cover_whence (ccopy t l C) here = whole t l here here
 cover_whence (ccopy t l C) (under s) = whole t l here (under s)

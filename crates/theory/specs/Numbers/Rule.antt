@@ -205,6 +205,7 @@ module _ (old : NRow) (K : ℕ → ℕ → Row → Type 0) where
 
     pub equals : {n m : ℕ} {f : Row} {r : NRow} → Numbering J n f r m → a ≤ n → ((i : ℕ) → a ≤ i → ids i f ≡ 0)
         → {q i j : ℕ} {d e : NRow} → Sub q i d r → 0 < toks (erase d) → Sub q j e old → erase e ≡ erase d → (i ≡ j) × (d ≡ e)
+    equals n∅ h t s l w z = elim s [ ]
     equals (nput N) h t (past s) l w z = equals N (omega arith) (λ i l. omega (arith, t i l)) s l w z
     equals (nold N) h t (past s) l w z = equals N h (λ i l. omega (arith, t i l)) s l w z
     equals (ncopy y N) h t here l w z = same_piece (F.copies y).0 l w z
@@ -220,6 +221,7 @@ module _ (old : NRow) (K : ℕ → ℕ → Row → Type 0) where
     -- a node that may keep its number alone does
     pub keeps_own : {n m : ℕ} {f : Row} {r : NRow} → Numbering J n f r m → a ≤ n → ((i : ℕ) → a ≤ i → ids i f ≡ 0)
         → {q i j : ℕ} {d : NRow} → Sub q i d r → K q j (forget a (erase d)) → i ≡ j
+    keeps_own n∅ h t s k = elim s [ ]
     keeps_own (nput N) h t (past s) k = keeps_own N (omega arith) (λ i l. omega (arith, t i l)) s k
     keeps_own (nold N) h t (past s) k = keeps_own N h (λ i l. omega (arith, t i l)) s k
     keeps_own (ncopy y N) h t here k = F.heir (F.copies y).0 (rw (piece-forget (F.copies y).0) at k)

@@ -83,22 +83,26 @@ seek-none c (past s) e z = seek-none c s e z
 
 -- ---- at most one old piece equals a given piece with tokens
 
-pub unique : {q i j : ℕ} {d e r : NRow} → Sub q i d r → Sub q j e r → erase d ≡ erase e → 0 < toks (erase d) → occ 0 r ≡ 0 → ((x : ℕ) → occ x r ≤ 1) → (i ≡ j) × (d ≡ e)
-unique here here z h l a = (refl, refl)
-unique here (under t) z h l a = absurd (omega (arith, sub-size t, ap size z))
-unique {d = d} {e = e} here (later t) z h l a =
+-- also of two productions: they are then one
+unique_at : {q p i j : ℕ} {d e r : NRow} → Sub q i d r → Sub p j e r → erase d ≡ erase e → 0 < toks (erase d) → occ 0 r ≡ 0 → ((x : ℕ) → occ x r ≤ 1) → (i ≡ j) × (d ≡ e)
+unique_at here here z h l a = (refl, refl)
+unique_at here (under t) z h l a = absurd (omega (arith, sub-size t, ap size z))
+unique_at {d = d} {e = e} here (later t) z h l a =
     let x = some_token d (omega arith) h in
     absurd (omega (arith, x.2, toc-ids x.0 d, toc-ids x.0 e, ap (ids x.0) z, sub-toc x.0 t, a x.0))
-unique (under s) here z h l a = absurd (omega (arith, sub-size s, ap size z))
-unique (under s) (under t) z h l a = unique s t z h (omega arith) (λ x. omega (arith, a x))
-unique {d = d} {e = e} (under {c = c} {f = f} s) (later t) z h l a =
+unique_at (under s) here z h l a = absurd (omega (arith, sub-size s, ap size z))
+unique_at (under s) (under t) z h l a = unique_at s t z h (omega arith) (λ x. omega (arith, a x))
+unique_at {d = d} {e = e} (under {c = c} {f = f} s) (later t) z h l a =
     let x = some_token d (omega (arith, sub-toc 0 s, sub-noc 0 s)) h in
     absurd (omega (arith, x.2, toc-ids x.0 d, toc-ids x.0 e, ap (ids x.0) z, sub-toc x.0 s, sub-toc x.0 t, a x.0))
-unique {d = d} {e = e} (later s) here z h l a =
+unique_at {d = d} {e = e} (later s) here z h l a =
     let x = some_token d (omega (arith, sub-toc 0 s, sub-noc 0 s)) h in
     absurd (omega (arith, x.2, toc-ids x.0 d, toc-ids x.0 e, ap (ids x.0) z, sub-toc x.0 s, a x.0))
-unique {d = d} {e = e} (later {c = c} {f = f} s) (under t) z h l a =
+unique_at {d = d} {e = e} (later {c = c} {f = f} s) (under t) z h l a =
     let x = some_token d (omega (arith, sub-toc 0 s, sub-noc 0 s)) h in
     absurd (omega (arith, x.2, toc-ids x.0 d, toc-ids x.0 e, ap (ids x.0) z, sub-toc x.0 s, sub-toc x.0 t, a x.0))
-unique (later s) (later t) z h l a = unique s t z h (omega arith) (λ x. omega (arith, a x))
-unique (past s) (past t) z h l a = unique s t z h (omega arith) (λ x. omega (arith, a x))
+unique_at (later s) (later t) z h l a = unique_at s t z h (omega arith) (λ x. omega (arith, a x))
+unique_at (past s) (past t) z h l a = unique_at s t z h (omega arith) (λ x. omega (arith, a x))
+
+pub unique : {q i j : ℕ} {d e r : NRow} → Sub q i d r → Sub q j e r → erase d ≡ erase e → 0 < toks (erase d) → occ 0 r ≡ 0 → ((x : ℕ) → occ x r ≤ 1) → (i ≡ j) × (d ≡ e)
+unique s t = unique_at s t
