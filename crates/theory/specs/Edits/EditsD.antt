@@ -62,8 +62,11 @@ module _ (t : List ℕ) (old : List Tok) (row codes : List ℕ) where
   found {es} e (yes h) = yes (es, h)
   found {es} e (no h) = no (λ f. let a = edits_of_lem f.0 row f.1.records in let z : f.0 ≡ es = cc in h (rw z at f.1))
 
+  pub none_in : edits_of row ≡ none → (es : List Edit) × EditsInOrder t old row codes es → ⊥
+  none_in e f = let a = edits_of_lem f.0 row f.1.records in let z : ◌≡◌ {A = ℕ} 0 1 = cc in omega arith
+
   abbrev by : (o : Option (List Edit)) → edits_of row ≡ o → Dec ((es : List Edit) × EditsInOrder t old row codes es)
-  by none e = no (λ f. let a = edits_of_lem f.0 row f.1.records in let z : ◌≡◌ {A = ℕ} 0 1 = cc in omega arith)
+  by none e = no (none_in e)
   by (some es) e = found e (rules_d es (of_edits row e))
 
   unfoldable pub edits_in : Dec ((es : List Edit) × EditsInOrder t old row codes es)

@@ -190,15 +190,33 @@ module _ (k : ℕ) {A B : ℕ → Type 0} (dA : (p : ℕ) → Dec (A p)) (dB : (
   meets lost lost g h = (omega (arith, g.0), λ q x. g.1 q x.0)
 
 -- ---- tests of records
+pub wtok_part : {x y : Tok} → wtok x ≡ wtok y → x ≡ y
+wtok_part e = cc
+
+pub same_wnod : {q p n m : ℕ} → (q ≡ p) × (n ≡ m) → wnod q n ≡ wnod p m
+same_wnod t = let a = t.0 in let b = t.1 in cc
+
+pub wnod_parts : {q p n m : ℕ} → wnod q n ≡ wnod p m → (q ≡ p) × (n ≡ m)
+wnod_parts e = (cc, cc)
+
+pub wtok-wnod : {x : Tok} {q n : ℕ} → wtok x ≡ wnod q n → ⊥
+wtok-wnod e = let z : ◌≡◌ {A = ℕ} 0 1 = cc in omega arith
+
+pub none-some : {w : Word} → none ≡ some w → ⊥
+none-some e = let z : ◌≡◌ {A = ℕ} 0 1 = cc in omega arith
+
+pub some_part : {v w : Word} → some v ≡ some w → v ≡ w
+some_part e = cc
+
 abbrev pub word_d : (v w : Word) → Dec (v ≡ w)
-word_d (wtok x) (wtok y) = map_d (λ e. ap wtok e) (λ e. cc) (tok_d x y)
-word_d (wtok x) (wnod q n) = no (λ e. let z : ◌≡◌ {A = ℕ} 0 1 = cc in omega arith)
-word_d (wnod q n) (wtok x) = no (λ e. let z : ◌≡◌ {A = ℕ} 0 1 = cc in omega arith)
-word_d (wnod q n) (wnod p m) = map_d (λ t. let a = t.0 in let b = t.1 in cc) (λ e. (cc, cc)) (and_d (ℕ_discrete q p) (ℕ_discrete n m))
+word_d (wtok x) (wtok y) = map_d (λ e. ap wtok e) wtok_part (tok_d x y)
+word_d (wtok x) (wnod q n) = no wtok-wnod
+word_d (wnod q n) (wtok x) = no (λ e. wtok-wnod (sym e))
+word_d (wnod q n) (wnod p m) = map_d same_wnod wnod_parts (and_d (ℕ_discrete q p) (ℕ_discrete n m))
 
 abbrev pub opt_d : (v : Option Word) (w : Word) → Dec (v ≡ some w)
-opt_d none w = no (λ e. let z : ◌≡◌ {A = ℕ} 0 1 = cc in omega arith)
-opt_d (some v) w = map_d (λ e. ap some e) (λ e. cc) (word_d v w)
+opt_d none w = no none-some
+opt_d (some v) w = map_d (λ e. ap some e) some_part (word_d v w)
 
 abbrev pub stand_d : (W : List Word) (f : Row) (p : ℕ) → Dec (Stand W p f)
 stand_d W ∅ p = yes tt
