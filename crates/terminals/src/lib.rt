@@ -8,7 +8,7 @@ ghost use Rattle.theory.specs.Check.Says.{Says};
 ghost use Rattle.terminals.specs.Members.{One, Join, Within, Empty};
 
 // A set of terminals below 64.
-#[derive(Drop)]
+#[derive(Clone, Copy)]
 pub struct Terminals {
     // the worths of its terminals together
     pub bits: u64,

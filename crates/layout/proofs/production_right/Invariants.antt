@@ -1,0 +1,16 @@
+-- `layout::production_right` meets its contract. The loop's invariant: the test so far is that of the symbols passed. Assumes nothing.
+use mathlib.Core.Path.{◌∙◌}
+use Prim.Native.Nat.{ℕ, ◌-◌, ◌≤◌, ◌<◌}
+use native.Mathlib.Omega.{arith}
+use Rattle.definitions.specs.Sheet.{symbol}
+use Rattle.theory.specs.Check.Says.{Says}
+use Rattle.layout.specs.Parts.{Placed}
+use Rattle.layout.proofs.Laws.{none, one_more, up_to, says_production}
+use borrow.Author.Rules.{rules}
+use Rattle.layout.proofs.production_right.Given as goal
+
+abbrev pub invariant-loop-k : goal.invariant-loop-k
+invariant-loop-k l = (l.k ≤ 8) × Says l.ok ((j : ℕ) → j < l.k → Placed l.t (symbol l.t l.p j) j l.n)
+
+abbrev pub decreases-loop-k : goal.decreases-loop-k
+decreases-loop-k l = 8 - l.k
