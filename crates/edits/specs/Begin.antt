@@ -68,7 +68,7 @@ module _ {old r r₁ : List ℕ} {all : ℕ} (K : Counts old r r₁ tokens_at (g
             within = omega (arith, toks-length (erase C.tree));
             is = ap (pieces (erase C.tree) (all_marks C) ⧺◌) (append-∅ (row d) ∙ ap row (sym w ∙ ap (λ (i : ℕ). put_at i C.es C.put) n));
             pending = P.holds C.t old C.put ∅ (omega arith) none;
-            counted = counts_stand P.elsewhere c₂;
+            counted = counts_stand P.elsewhere _ c₂;
             marked = marks_stand P.elsewhere (many C) (few_tokens C) (rw n at M.holds);
           }
 

@@ -108,8 +108,8 @@ module _ {r r' : List ℕ} (E : Elsewhere r r') where
   pub high_word : (j : ℕ) → get_or r' (tokens_at + j) 0 ≡ get_or r (tokens_at + j) 0
   high_word j = sym (get_or-drop tokens_at r' j 0) ∙ ap (λ (l : List ℕ). get_or l j 0) E.above ∙ get_or-drop tokens_at r j 0
 
-  pub counts_stand : {old : List ℕ} → Counted old r → Counted old r'
-  counts_stand c j h = high_word j ∙ c j h
+  pub counts_stand : (old : List ℕ) → Counted old r → Counted old r'
+  counts_stand old c j h = high_word j ∙ c j h
 
   low_word : (x : ℕ) → x < list_at → get_or r' x 0 ≡ get_or r x 0
   low_word x h = sym (get_or-take list_at r' x 0 h) ∙ ap (λ (l : List ℕ). get_or l x 0) E.below ∙ get_or-take list_at r x 0 h

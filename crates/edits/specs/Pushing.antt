@@ -1,7 +1,7 @@
 -- Inserted codes put on the reading list, the last first.
 use Rattle.std.specs.Prelude.{◌≡◌, List, ◌∷◌, ℕ, suc, ◌+◌, ◌-◌, ◌≤◌, ◌<◌, length, get_or, set}
 use Rattle.std.proofs.Common.{ap, ◌∙◌, arith, add-one, get_or-set_same, get_or-set_other}
-use Rattle.std.proofs.Math.Seq.{slice, slice_empty, slice_cons}
+use Rattle.std.proofs.Math.Seq.{slice, slice_empty, slice-cons}
 use Rattle.definitions.specs.Tree.{Row, ◌⧺◌, row}
 use Rattle.definitions.specs.Edits.{inserted}
 use Rattle.list.specs.Pending.{list_at, Pending, code, pending_stands}
@@ -26,7 +26,7 @@ pushes_code {r} {r'} {m} {j} {hi} {k} P h l n long =
       holds = λ t old put f b p.
           let z : suc (j - 1) ≡ j = omega arith in
           let s : slice (j - 1) hi put ≡ get_or put (j - 1) 0 ∷ slice j hi put =
-          slice_cons (j - 1) hi put 0 (omega arith) b ∙ ap (λ (i : ℕ). get_or put (j - 1) 0 ∷ slice i hi put) z in
+          slice-cons (j - 1) hi put 0 (omega arith) b ∙ ap (λ (i : ℕ). get_or put (j - 1) 0 ∷ slice i hi put) z in
           rw (s, add-one) (code (j - 1) (get_or-set_same r' (list_at + k) (2048 + (j - 1)) 0 (omega (arith, P.elsewhere.long))) (omega arith)
           (pending_stands (λ i q. get_or-set_other r' (list_at + k) (list_at + i) (2048 + (j - 1)) 0 (λ e. omega arith)) (P.holds t old put f b p)));
     }

@@ -139,7 +139,7 @@ module _ {old : List ℕ} {C : Case old} {r : List ℕ} {pos m from a b : ℕ} (
         within = omega (arith, L.first, L.within, some-tokens);
         is = is;
         pending = p;
-        counted = counts_stand E L.counted;
+        counted = counts_stand E _ L.counted;
         marked = marks_stand E (many C) (few_tokens C) L.marked;
       }
 

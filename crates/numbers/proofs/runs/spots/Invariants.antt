@@ -1,0 +1,13 @@
+-- `runs::spots` meets its contract. The loop's invariant is `Walking`: the words before the next record are told. Assumes nothing.
+use mathlib.Core.Path.{◌≡◌, refl}
+use Prim.Native.Nat.{◌-◌, ◌≤◌, ◌<◌}
+use native.Mathlib.Omega.{arith}
+use lib.ListN.{length}
+use Rattle.numbers.specs.Runs.{Walking, Started}
+use Rattle.numbers.proofs.runs.spots.Given as goal
+
+abbrev pub invariant-loop-r : goal.invariant-loop-r
+invariant-loop-r l = Walking l.old l.initial.room l.m l.n l.room l.r
+
+abbrev pub decreases-loop-r : goal.decreases-loop-r
+decreases-loop-r l = l.n - l.r.at

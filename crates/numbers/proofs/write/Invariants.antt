@@ -1,0 +1,15 @@
+-- `numbers::write` meets its contract. The loop's invariant: after j turns the first j records stand in the tree, and `at` is the next number. Assumes nothing.
+use mathlib.Core.Path.{◌≡◌, refl, ap, ◌∙◌}
+use Prim.Native.Nat.{◌+◌, ◌-◌, ◌≤◌, ◌<◌}
+use native.Mathlib.Omega.{arith}
+use lib.ListN.{length, set, length-set}
+use Rattle.numbers.specs.Records.{front}
+use Rattle.numbers.specs.Write.{is_new, news, news-none, news-more, news_le, sofar, row_more, sofar-none, sofar_all}
+use borrow.Author.Rules.{rules}
+use Rattle.numbers.proofs.write.Given as goal
+
+abbrev pub invariant-loop-j : goal.invariant-loop-j
+invariant-loop-j l = (l.j ≤ l.n) × (length l.tree ≡ length l.initial.tree) × (6146 ≤ length l.tree) × (l.at ≡ l.next + news (front l.room) l.j) × (l.tree ≡ sofar l.next (front l.room) l.initial.tree l.j)
+
+abbrev pub decreases-loop-j : goal.decreases-loop-j
+decreases-loop-j l = l.n - l.j

@@ -1,0 +1,16 @@
+-- `states::firsts::zeros` meets its contract: the array holds the sets of the items passed whose dot is 0. Assumes nothing.
+use mathlib.Core.Path.{◌≡◌, sym, subst, ◌∙◌}
+use Prim.Native.Nat.{ℕ, ◌-◌, ◌≤◌}
+use native.Mathlib.Omega.{arith}
+use borrow.Author.Rules.{rules}
+use Rattle.definitions.specs.Sheet.{count}
+use Rattle.terminals.specs.Members.{Join}
+use Rattle.states.specs.Gathering.{SetsTo, sets_none, sets_more}
+use Rattle.states.specs.Zeros.{Zero, zeros_all}
+use Rattle.states.proofs.firsts.zeros.Given as goal
+
+abbrev pub invariant-loop-i : goal.invariant-loop-i
+invariant-loop-i l = (l.i ≤ l.n) × SetsTo 200 (Zero l.t l.s) l.i l.sets
+
+abbrev pub decreases-loop-i : goal.decreases-loop-i
+decreases-loop-i l = l.n - l.i

@@ -1,0 +1,22 @@
+-- `states::items::find` meets its contract: items rise, so the half that is left out has no item (p,d). Assumes nothing.
+use Prim.Native.Nat.{◌-◌}
+use native.Mathlib.Omega.{arith}
+use Rattle.states.proofs.Loops.{Halves, halves_up, halves_down, none_left, same_item}
+use Rattle.states.proofs.items.find.Goals as goal
+
+pub returns-then-key-want : goal.returns-then-key-want
+returns-then-key-want c =
+    let p = c.requires in
+    let e = p.0.many in
+    (omega arith, same_item p.0 _ _ p.2 _ (omega arith) (omega arith))
+
+pub loop-lo-preserved-then-key-want-2 : goal.loop-lo-preserved-then-key-want-2
+loop-lo-preserved-then-key-want-2 c = halves_up c.requires.0 c.loop-lo.invariant _ (omega arith) (omega arith) (omega arith)
+
+pub loop-lo-preserved : goal.loop-lo-preserved
+loop-lo-preserved c = halves_down c.requires.0 c.loop-lo.invariant _ (omega arith) (omega arith) (omega arith)
+
+pub returns : goal.returns
+returns c =
+    let p = c.requires in
+    none_left p.0 _ _ p.2 c.loop-lo.invariant c.loop-lo-test.false
