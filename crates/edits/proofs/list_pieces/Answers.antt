@@ -31,8 +31,12 @@ own c = let g = c.requires.2 in piece c g.0 g.1
 
 some : (c : Else-a-b) → c.wide-a.result < c.wide-b.result
 some c =
-    let own' : Last c.before.requires.2.0 c.before.loop-pos.room c.before.loop-pos.pos c.before.loop-pos.k (c.before.loop-pos.pos - c.before.size_at.result) c.before.wide-a.result c.before.wide-b.result = let g = c.before.requires.2 in piece c.before g.0 g.1 in
-    let n = c.if-a-b.false in omega (arith, some-tokens (own'))
+    let g = c.requires.2 in
+    let z = c.size_at.ensures.0 in
+    let L : Last g.0 c.loop-pos.room c.loop-pos.pos c.loop-pos.k (c.loop-pos.pos - c.size_at.result) c.wide-a.result c.wide-b.result =
+        last-piece (c.loop-pos.invariant.1 g.0 g.1) c.loop-pos-test.true (c.loop-pos.pos - c.size_at.result) c.wide-a.result c.wide-b.result (ap (c.loop-pos.pos -◌) z) c.wide-a.ensures.0 c.wide-b.ensures.0 in
+    let n = c.if-a-b.false in
+    omega (arith, some-tokens L)
 
 -- the old row and the room are long enough
 long : (c : In-loop-pos) →    (c.loop-pos.pos ≤ 2048) × (2 + 3 * c.loop-pos.pos ≤ length c.args.old.now) × (16384 ≤ length c.loop-pos.room)
@@ -114,10 +118,10 @@ loop-pos-preserved-then-a-b c =
 
 pub clean-requires : goal.clean-requires
 clean-requires c =
-    let x = long c.before.before.before.before.before.before.before in
+    let x = long (goal.at.clean-requires c).In-loop-pos in
     let k = x.2 in
     let n = few_tokens c.requires.2.0 in
-    let L = own c.before.before in
+    let L = own (goal.at.clean-requires c).After-wide-b in
     (k, some (goal.at.clean-requires c).Else-a-b, omega (arith, L.within))
 
 pub overflow_cast-pos : goal.overflow_cast-pos
@@ -128,22 +132,22 @@ overflow_cast-pos c =
 
 pub push-requires : goal.push-requires
 push-requires c =
-    let x = long c.before.before.before.before.before.before.before.before.before.before in
-    (x.2, push_clean (own c.before.before.before.before.before) (some c.before.before.before.before) (c.clean.ensures.to c.if-clean.true))
+    let x = long (goal.at.push-requires c).In-loop-pos in
+    (x.2, push_clean (own (goal.at.push-requires c).After-wide-b) (some (goal.at.push-requires c).Else-a-b) (c.clean.ensures.to c.if-clean.true))
 
 pub overflow_add-k : goal.overflow_add-k
 overflow_add-k c =
-    let h = push_clean (own c.before.before.before.before.before.before.before.before.before) (some c.before.before.before.before.before.before.before.before) (c.clean.ensures.to c.if-clean.true) in
+    let h = push_clean (own (goal.at.overflow_add-k c).After-wide-b) (some (goal.at.overflow_add-k c).Else-a-b) (c.clean.ensures.to c.if-clean.true) in
     search rules
 
 pub push_before-k-requires : goal.push_before-k-requires
 push_before-k-requires c =
-    let x = long c.before.before.before.before.before.before.before.before.before.before.before.before.before.before in
+    let x = long (goal.at.push_before-k-requires c).In-loop-pos in
     let k = x.2 in
     let z = c.push.auto.room in
     let n = few_tokens c.requires.2.0 in
-    let L = own c.before.before.before.before.before.before.before.before.before in
-    (omega arith, omega (arith, L.within, some c.before.before.before.before.before.before.before.before), room-clean L (some c.before.before.before.before.before.before.before.before) (c.clean.ensures.to c.if-clean.true) c.push.new.room c.push.ensures)
+    let L = own (goal.at.push_before-k-requires c).After-wide-b in
+    (omega arith, omega (arith, L.within, some (goal.at.push_before-k-requires c).Else-a-b), room-clean L (some (goal.at.push_before-k-requires c).Else-a-b) (c.clean.ensures.to c.if-clean.true) c.push.new.room c.push.ensures)
 
 pub loop-pos-smaller-then-clean : goal.loop-pos-smaller-then-clean
 loop-pos-smaller-then-clean c =
@@ -156,9 +160,9 @@ loop-pos-smaller-then-clean c =
 pub loop-pos-preserved-then-clean : goal.loop-pos-preserved-then-clean
 loop-pos-preserved-then-clean c =
     let B = c.clean.ensures.to c.if-clean.true in
-    let E : Elsewhere c.args.room.now c.push.new.room = rw c.push.ensures (pushes c.loop-pos.k (c.loop-pos.pos - 1) (push_clean (own c.before.before.before.before.before.before.before.before.before.before.before.before) (some c.before.before.before.before.before.before.before.before.before.before.before) B) c.loop-pos.invariant.0) in (
+    let E : Elsewhere c.args.room.now c.push.new.room = rw c.push.ensures (pushes c.loop-pos.k (c.loop-pos.pos - 1) (push_clean (own (goal.at.loop-pos-preserved-then-clean c).After-wide-b) (some (goal.at.loop-pos-preserved-then-clean c).Else-a-b) B) c.loop-pos.invariant.0) in (
       then E c.push_before-k.ensures.elsewhere,
-      λ C G. step-clean (piece c.before.before.before.before.before.before.before.before.before.before.before.before C G) (some c.before.before.before.before.before.before.before.before.before.before.before) B c.push.new.room c.push.ensures c.requires.1.0.1 (long c.before.before.before.before.before.before.before.before.before.before.before.before.before.before.before.before.before).2 c.push_before-k.ensures,
+      λ C G. step-clean (piece (goal.at.loop-pos-preserved-then-clean c).After-wide-b C G) (some (goal.at.loop-pos-preserved-then-clean c).Else-a-b) B c.push.new.room c.push.ensures c.requires.1.0.1 (long (goal.at.loop-pos-preserved-then-clean c).In-loop-pos).2 c.push_before-k.ensures,
     )
 
 pub kind_at-requires : goal.kind_at-requires
@@ -170,12 +174,12 @@ kind_at-requires c =
 
 pub push_before-k-requires-then-kind_at-lt256 : goal.push_before-k-requires-then-kind_at-lt256
 push_before-k-requires-then-kind_at-lt256 c =
-    let x = long c.before.before.before.before.before.before.before.before.before.before.before.before in
+    let x = long (goal.at.push_before-k-requires-then-kind_at-lt256 c).In-loop-pos in
     let n = few_tokens c.requires.2.0 in
-    let L = own c.before.before.before.before.before.before.before in
+    let L = own (goal.at.push_before-k-requires-then-kind_at-lt256 c).After-wide-b in
     let k = c.kind_at.ensures.0 in
     let h = c.if-kind_at-lt256.true in
-    (x.2, omega (arith, L.within, some c.before.before.before.before.before.before), room_gone L (some c.before.before.before.before.before.before) (refused c.clean.ensures c.if-clean.false) (omega arith))
+    (x.2, omega (arith, L.within, some (goal.at.push_before-k-requires-then-kind_at-lt256 c).Else-a-b), room_gone L (some (goal.at.push_before-k-requires-then-kind_at-lt256 c).Else-a-b) (refused c.clean.ensures c.if-clean.false) (omega arith))
 
 pub loop-pos-smaller-then-kind_at-lt256 : goal.loop-pos-smaller-then-kind_at-lt256
 loop-pos-smaller-then-kind_at-lt256 c =
@@ -190,17 +194,14 @@ loop-pos-preserved-then-kind_at-lt256 c =
     let k = c.kind_at.ensures.0 in
     let h = c.if-kind_at-lt256.true in (
       then c.loop-pos.invariant.0 c.push_before-k-then-kind_at-lt256.ensures.elsewhere,
-      λ C G. step_gone (piece c.before.before.before.before.before.before.before.before.before.before C G) (some c.before.before.before.before.before.before.before.before.before) (refused c.clean.ensures c.if-clean.false) (omega arith) c.push_before-k-then-kind_at-lt256.ensures,
+      λ C G. step_gone (piece (goal.at.loop-pos-preserved-then-kind_at-lt256 c).After-wide-b C G) (some (goal.at.loop-pos-preserved-then-kind_at-lt256 c).Else-a-b) (refused c.clean.ensures c.if-clean.false) (omega arith) c.push_before-k-then-kind_at-lt256.ensures,
     )
 
 pub loop-pos-preserved : goal.loop-pos-preserved
 loop-pos-preserved c =
     let k = c.kind_at.ensures.0 in
     let h = c.if-kind_at-lt256.false in
-    (c.loop-pos.invariant.0, λ C G. step-broken (piece c.before.before.before.before.before.before C G) (some c.before.before.before.before.before) (refused c.clean.ensures c.if-clean.false) (omega arith))
-
-pub UNKNOWN-same-length : goal.UNKNOWN-same-length
-UNKNOWN-same-length c = c.loop-pos.invariant.0.long
+    (c.loop-pos.invariant.0, λ C G. step-broken (piece (goal.at.loop-pos-preserved c).After-wide-b C G) (some (goal.at.loop-pos-preserved c).Else-a-b) (refused c.clean.ensures c.if-clean.false) (omega arith))
 
 pub returns : goal.returns
 returns c =

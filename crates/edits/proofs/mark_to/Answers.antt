@@ -28,7 +28,7 @@ overflow_add-out c =
 pub mark-requires : goal.mark-requires
 mark-requires c =
     let h = c.loop-i-test.true in
-    let f = few c.before.before.before in
+    let f = few (goal.at.mark-requires c).At-loop-i in
     let g = c.inside-out.ensures.1 in
     let n = c.requires.0 in
     let e = c.loop-i.invariant.1 in
@@ -49,9 +49,6 @@ loop-i-preserved c =
           let t = C.high in
           rw z (marks_place M' (C.free c.loop-i.i h) (omega arith) (omega arith) c.inside-out.result c.inside-out.ensures.0),
     )
-
-pub UNKNOWN-same-length : goal.UNKNOWN-same-length
-UNKNOWN-same-length c = c.loop-i.invariant.1
 
 pub returns : goal.returns
 returns c =

@@ -55,9 +55,6 @@ loop-j-preserved c =
     let z = c.push.ensures in
     (omega arith, omega arith, rw z (pushes_code i.2 (omega arith) j (omega arith) c.requires.0))
 
-pub UNKNOWN-same-length : goal.UNKNOWN-same-length
-UNKNOWN-same-length c = c.loop-j.invariant.2.elsewhere.long
-
 pub returns : goal.returns
 returns c =
     let h = c.loop-j-test.false in
