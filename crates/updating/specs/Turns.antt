@@ -202,6 +202,8 @@ behind {t} {old} {put} {r} {m} {f} {x} {g} L e = by m f L.pending e L.small
         (omega arith, rw p (record { few = L.few; codes = L.codes; pending = subst (Pending t old put r m) z P; counted = L.counted; small = l }))
 
     by : (m : ℕ) (f : Row) → Pending t old put r m f → f ≡ tok x g → toks f ≤ 2048 → (0 < m) × Listed t old put r (m - 1) g
+    by zero (tok x f) P e l = elim P [ ]
+    by zero (nod q c f) P e l = elim P [ ]
     by zero ∅ none e l = let z : ◌≡◌ {A = ℕ} 0 1 = cc in absurd (omega arith)
     by (suc m) f (piece v (leaf y) q i P h k) e l = made m k (cc) (omega (arith, ap toks e))
     by (suc m) f (piece v (node q c) w i P h k) e l = let z : ◌≡◌ {A = ℕ} 0 1 = cc in absurd (omega arith)
@@ -258,6 +260,7 @@ module _ {t old put run r : List ℕ} {n m v : ℕ} {σ : Stack} {f : Row} (F : 
       by err error = refl
       by acc accept = refl
       by (sh s) shift = refl
+      by (red p) x = elim x [ ]
 
 -- ---- the tokens of the list
 pub counting_of : {t old put r : List ℕ} {m : ℕ} {f : Row} → Listed t old put r m f → Counting t old put r m f

@@ -58,11 +58,11 @@ pub returns-in-Nowhere : goal.returns-in-Nowhere
 returns-in-Nowhere c =
     let a = c.args in
     let p = c.requires in
-    let o = c.before.before.«open».ensures in record {
+    let o = c.open.ensures in record {
       by_index = λ put σ f F e.
           let z = sym (seen (goal.at.returns-in-Nowhere c).After-goto_of-g put σ f F e) ∙ ap goto_is c.in-Nowhere.is in
-          left-broken F p.2 z (o.0 a.t.now put (tokened F.kids ⧺ F.rest) (opens F)) o.1;
-      above = above_list o.1;
+          left-broken F p.2 z (o.by_index a.t.now put (tokened F.kids ⧺ F.rest) (opens F)) o.elsewhere;
+      above = above_list o.elsewhere;
     }
 
 pub returns-in-Held : goal.returns-in-Held

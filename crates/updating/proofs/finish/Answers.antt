@@ -31,9 +31,9 @@ pub returns-then-finish : goal.returns-then-finish
 returns-then-finish c =
     let a = c.args in
     let s = c.finish in
-    let q = c.e-1.given in record {
+    record {
       lent_after = λ t edits put lent r es J E.
-          let R = ended (goal.at.returns-then-finish c).Start _ E q.1 in
+          let R = ended (goal.at.returns-then-finish c).Start _ E c.in-Taken.is in
           let A = s.ensures.answers r (tree-read J a.tree.now lent R) (given J a.tree.now lent R) in
           tells J a.tree.now lent R _ refl (subst (λ (b : Bool). Answers a.tree.now s.new.tree (renumber (judge r) r (get_or a.old.now 1 0) (tree-read J a.tree.now lent R)) b) c.if-finish.true A);
       room_unchanged = s.ensures.room_unchanged;
@@ -49,9 +49,9 @@ pub returns-else-finish : goal.returns-else-finish
 returns-else-finish c =
     let a = c.args in
     let s = c.finish in
-    let q = c.e-1.given in record {
+    record {
       lent_after = λ t edits put lent r es J E.
-          let R = ended (goal.at.returns-else-finish c).Start _ E q.1 in
+          let R = ended (goal.at.returns-else-finish c).Start _ E c.in-Taken.is in
           let A = s.ensures.answers r (tree-read J a.tree.now lent R) (given J a.tree.now lent R) in
           too_many J a.tree.now lent R (subst (λ (b : Bool). Answers a.tree.now s.new.tree (renumber (judge r) r (get_or a.old.now 1 0) (tree-read J a.tree.now lent R)) b) c.if-finish.false A);
       room_unchanged = s.ensures.room_unchanged;

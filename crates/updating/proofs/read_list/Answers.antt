@@ -23,8 +23,8 @@ start c f L = list_stands c.begin.ensures.room_unchanged L
 
 first : (c : At-loop-n) → let a = c.args in Listed a.t.now a.old.now a.put.now c.begin.new.room a.m c.requires.3.0
 first c =
-    let start' : (f : Row) → let a = c.before.before.before.before.before.before.before.args in Listed a.t.now a.old.now a.put.now a.room.now a.m f
-    → Listed a.t.now a.old.now a.put.now c.before.before.before.before.before.before.before.begin.new.room a.m f = λ f L. list_stands c.before.before.before.before.before.before.before.begin.ensures.room_unchanged L in
+    let start' : (f : Row) → let a = c.args in Listed a.t.now a.old.now a.put.now a.room.now a.m f
+    → Listed a.t.now a.old.now a.put.now c.begin.new.room a.m f = λ f L. list_stands c.begin.ensures.room_unchanged L in
     let x = c.requires.3 in start' x.0 x.1
 
 witness : (c : At-loop-n) → let a = c.args in let l = c.loop-n in
@@ -51,9 +51,8 @@ did c f L e =
 
 above_then : (c : After-take_turn-o) → Above c.args.room.now c.take_turn-o.new.room
 above_then c =
-    let witness' : let a = c.before.before.args in let l = c.before.before.loop-n in
-    Running a.t.now a.old.now a.put.now c.before.before.begin.new.room l.room c.before.before.requires.3.0 l.n l.words l.next (counting l.lefts l.rights l.wholes l.shifts l.reductions) = c.before.before.loop-n.invariant c.before.before.requires.3.0 (first c.before.before) in
-    above_on (above_on (above_states c.begin.ensures.room_unchanged c.begin.auto.room) (witness').above) c.take_turn-o.ensures.above
+    let first' : Listed c.args.t.now c.args.old.now c.args.put.now c.begin.new.room c.args.m c.requires.3.0 = list_stands c.begin.ensures.room_unchanged c.requires.3.1 in
+    above_on (above_on (above_states c.begin.ensures.room_unchanged c.begin.auto.room) (c.loop-n.invariant c.requires.3.0 first').above) c.take_turn-o.ensures.above
 
 length-then : (c : After-take_turn-o) → length c.take_turn-o.new.room ≡ length c.args.room.now
 length-then c = (above_then c).long
@@ -66,26 +65,16 @@ shifted-then : (c : After-tokens_left) (f : Row) → let a = c.args in
     (L : Listed a.t.now a.old.now a.put.now c.begin.new.room a.m f)
     → shifted (c.loop-n.invariant f L).stack + c.tokens_left.result ≡ c.tokens_left-total.result
 shifted-then c f L =
-    let did' : (f : Row) {o : Turn} → let a = c.before.before.before.before.before.before.args in let l = c.before.before.before.before.before.before.loop-n in
-    (L : Listed a.t.now a.old.now a.put.now c.before.before.before.before.before.before.begin.new.room a.m f) → c.before.before.before.before.before.before.take_turn-o.result ≡ o
-    → Does a.t.now a.old.now a.put.now c.before.before.before.before.before.before.take_turn-o.new.room l.n l.words (l.invariant f L).stack (l.invariant f L).rest (turn (table_of a.t.now) (2048 - l.n) (l.invariant f L).stack (l.invariant f L).rest) o = λ f L e. let a = c.before.before.before.before.before.before.args in
-    let l = c.before.before.before.before.before.before.loop-n in
-    let R = l.invariant f L in
-    subst (λ (o : Turn). Does a.t.now a.old.now a.put.now c.before.before.before.before.before.before.take_turn-o.new.room l.n l.words R.stack R.rest (turn (table_of a.t.now) (2048 - l.n) R.stack R.rest) o) e
-    (c.before.before.before.before.before.before.take_turn-o.ensures.does R.stack R.rest R.holds R.listed R.looks) in
     let a = c.args in
     let R = c.loop-n.invariant f L in
-    let d = did' f L c.in-NoAction.is in
+    let d = c.in-NoAction.ensures.does R.stack R.rest R.holds R.listed R.looks in
     omega (arith, R.tokens, c.tokens_left.ensures a.t.now a.put.now R.rest (counting_of d.1), c.tokens_left-total.ensures a.t.now a.put.now f (counting_of L))
 
 -- all tokens are few
 total-few : (c : After-tokens_left) → c.tokens_left-total.result ≤ 2048
 total-few c =
-    let first' : let a = c.before.before.before.before.before.before.before.before.args in Listed a.t.now a.old.now a.put.now c.before.before.before.before.before.before.before.before.begin.new.room a.m c.before.before.before.before.before.before.before.before.requires.3.0 = let start' : (f : Row) → let a = c.before.before.before.before.before.before.before.before.before.before.before.before.before.before.before.args in Listed a.t.now a.old.now a.put.now a.room.now a.m f
-    → Listed a.t.now a.old.now a.put.now c.before.before.before.before.before.before.before.before.before.before.before.before.before.before.before.begin.new.room a.m f = λ f L. list_stands c.before.before.before.before.before.before.before.before.before.before.before.before.before.before.before.begin.ensures.room_unchanged L in
-    let x = c.before.before.before.before.before.before.before.before.requires.3 in start' x.0 x.1 in
     let a = c.args in
-    let L = first' in
+    let L : Listed a.t.now a.old.now a.put.now c.begin.new.room a.m c.requires.3.0 = list_stands c.begin.ensures.room_unchanged c.requires.3.1 in
     omega (arith, c.tokens_left-total.ensures a.t.now a.put.now _ (counting_of L), L.small)
 
 pub tokens_left-total-requires : goal.tokens_left-total-requires

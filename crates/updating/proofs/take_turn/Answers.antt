@@ -30,11 +30,11 @@ use Rattle.updating.proofs.take_turn.Goals.{After-act_of-act, After-identity_of,
 seen : (c : After-act_of-act) (σ : Stack) → let a = c.args in Holds a.room.now a.n σ → act_is c.act_of-act.result ≡ (table_of a.t.now).act (top σ) a.look
 seen c σ h = let e = c.top-s.ensures σ h in let k = c.wide.ensures.0 in c.act_of-act.ensures ∙ rw (e, k) refl
 
-other : (a : Code.Act) → OneOf (0 ∷ 1 ∷ 2 ∷ []) (tag_of ActOf.the_type a) → Other (act_is a)
+other : (a : Code.Act) → ((p : ℕ) → a ≡ Reduce p → ⊥) → Other (act_is a)
 other Error k = error
 other Accept k = accept
 other (Shift s) k = shift
-other (Reduce p) k = absurd (⊎_elim (λ e. omega arith) (⊎_elim (λ e. omega arith) (λ e. omega arith)) k)
+other (Reduce p) k = absurd (k p refl)
 
 -- what the next entry says
 at : (c : Else-m-eq0) (σ : Stack) (f : Row) → let a = c.args in Holds a.room.now a.n σ → Listed a.t.now a.old.now a.put.now a.room.now a.m f
@@ -48,9 +48,9 @@ run c = let a = c.args in c.next_run-run.ensures ∙ ap (run_of a.old.now a.put.
 facing : (c : Then-run-gt3) (σ : Stack) (f : Row) → let a = c.args in Holds a.room.now a.n σ → Listed a.t.now a.old.now a.put.now a.room.now a.m f
     → Facing a.t.now a.old.now a.put.now c.next_run-run.result.now a.room.now a.n a.m c.entry_at-entry.result σ f
 facing c σ f h L =
-    let at' : (σ : Stack) (f : Row) → let a = c.before.before.before.before.args in Holds a.room.now a.n σ → Listed a.t.now a.old.now a.put.now a.room.now a.m f
-    → Faces a.t.now a.old.now a.put.now a.room.now a.n a.m (get_or a.room.now (list_at + (a.m - 1)) 0) σ f = λ σ f h L. let k = c.before.before.before.before.if-m-eq0.false in faces c.before.before.before.before.requires.3 h (omega arith) L in
-    let run' : let a = c.before.args in c.before.next_run-run.result.now ≡ run_of a.old.now a.put.now (get_or a.room.now (list_at + (a.m - 1)) 0) = let a = c.before.args in c.before.next_run-run.ensures ∙ ap (run_of a.old.now a.put.now) c.before.entry_at-entry.ensures.0 in
+    let at' : (σ : Stack) (f : Row) → let a = c.args in Holds a.room.now a.n σ → Listed a.t.now a.old.now a.put.now a.room.now a.m f
+    → Faces a.t.now a.old.now a.put.now a.room.now a.n a.m (get_or a.room.now (list_at + (a.m - 1)) 0) σ f = λ σ f h L. let k = c.if-m-eq0.false in faces c.requires.3 h (omega arith) L in
+    let run' : let a = c.args in c.next_run-run.result.now ≡ run_of a.old.now a.put.now (get_or a.room.now (list_at + (a.m - 1)) 0) = let a = c.args in c.next_run-run.ensures ∙ ap (run_of a.old.now a.put.now) c.entry_at-entry.ensures.0 in
     let g = run' in
     let e = c.entry_at-entry.ensures.0 in
     let k = c.if-run-gt3.true in
@@ -60,9 +60,9 @@ facing c σ f h L =
 token : (c : After-identity_of) (σ : Stack) (f : Row) → let a = c.args in Holds a.room.now a.n σ → Listed a.t.now a.old.now a.put.now a.room.now a.m f
     → (0 < look 0 (yield f)) × Stands f (look 0 (yield f)) c.identity_of.result
 token c σ f h L =
-    let at' : (σ : Stack) (f : Row) → let a = c.before.before.before.before.before.before.args in Holds a.room.now a.n σ → Listed a.t.now a.old.now a.put.now a.room.now a.m f
-    → Faces a.t.now a.old.now a.put.now a.room.now a.n a.m (get_or a.room.now (list_at + (a.m - 1)) 0) σ f = λ σ f h L. let k = c.before.before.before.before.before.before.if-m-eq0.false in faces c.before.before.before.before.before.before.requires.3 h (omega arith) L in
-    let run' : let a = c.before.before.before.args in c.before.before.before.next_run-run.result.now ≡ run_of a.old.now a.put.now (get_or a.room.now (list_at + (a.m - 1)) 0) = let a = c.before.before.before.args in c.before.before.before.next_run-run.ensures ∙ ap (run_of a.old.now a.put.now) c.before.before.before.entry_at-entry.ensures.0 in
+    let at' : (σ : Stack) (f : Row) → let a = c.args in Holds a.room.now a.n σ → Listed a.t.now a.old.now a.put.now a.room.now a.m f
+    → Faces a.t.now a.old.now a.put.now a.room.now a.n a.m (get_or a.room.now (list_at + (a.m - 1)) 0) σ f = λ σ f h L. let k = c.if-m-eq0.false in faces c.requires.3 h (omega arith) L in
+    let run' : let a = c.args in c.next_run-run.result.now ≡ run_of a.old.now a.put.now (get_or a.room.now (list_at + (a.m - 1)) 0) = let a = c.args in c.next_run-run.ensures ∙ ap (run_of a.old.now a.put.now) c.entry_at-entry.ensures.0 in
     let g = run' in
     let k = c.if-run-gt3.false in
     let i = c.identity_of.ensures in
@@ -86,7 +86,7 @@ returns-in-Reduce c =
 pub returns-then-m-eq0 : goal.returns-then-m-eq0
 returns-then-m-eq0 c =
     let a = c.args in
-    let o = other_not (other c.act_of-act.result c.in_default.keys2) in record {
+    let o = other_not (other c.act_of-act.result c.in_default.not-Reduce) in record {
       does = λ σ f h L l.
           let N = nothing_next 0 c.if-m-eq0.true L in
           let z = l ∙ sym (stands_look N) in
@@ -114,7 +114,7 @@ returns-then-run-gt3 c =
     let e = c.enter in record {
       does = λ σ f h L l.
           let F = facing (goal.at.returns-then-run-gt3 c).Then-run-gt3 σ f h L in
-          enters F e.new.room e.result (seen (goal.at.returns-then-run-gt3 c).After-act_of-act σ h) l (other c.act_of-act.result c.in-Reduce.keys2) (e.ensures.by_index c.args.put.now σ f F (c.top-s.ensures σ h));
+          enters F e.new.room e.result (seen (goal.at.returns-then-run-gt3 c).After-act_of-act σ h) l (other c.act_of-act.result c.in_default.not-Reduce) (e.ensures.by_index c.args.put.now σ f F (c.top-s.ensures σ h));
       above = e.ensures.above;
     }
 
@@ -122,7 +122,7 @@ pub returns : goal.returns
 returns c =
     let a = c.args in
     let s = c.take_token in
-    let o = other_not (other c.act_of-act.result c.in-Reduce.keys2) in record {
+    let o = other_not (other c.act_of-act.result c.in_default.not-Reduce) in record {
       does = λ σ f h L l.
           let N = token (goal.at.returns c).After-identity_of σ f h L in
           s.ensures.takes a.t.now a.old.now a.put.now a.m σ f (omega (arith, N.0)) (record { holds = h; listed = L; stands = subst (λ (k : ℕ). Stands f k c.identity_of.result) (sym l) N.1; seen = seen (goal.at.returns c).After-act_of-act σ h; other = o });

@@ -65,15 +65,15 @@ pub overflow_add-k : goal.overflow_add-k
 overflow_add-k c = let i = c.loop-pos.invariant.1 in search rules
 
 pub loop-pos-smaller : goal.loop-pos-smaller
-loop-pos-smaller c = c.before-break.ensures.1
+loop-pos-smaller c = c.before_break-pos.ensures.1
 
 pub loop-pos-preserved : goal.loop-pos-preserved
 loop-pos-preserved c =
     let l = c.loop-pos in
     let w = c.wide.ensures.0 in
-    let e = c.before-break.ensures in
+    let e = c.before_break-pos.ensures in
     let m = c.args.m in
-    let r = c.before-break.result in (
+    let r = c.before_break-pos.result in (
       omega (arith, l.invariant.0, e.1),
       omega (arith, l.invariant.1, e.1),
       least (goal.at.loop-pos-preserved c).In-loop-pos _ _ w e,
