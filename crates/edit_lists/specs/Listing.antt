@@ -15,8 +15,10 @@ Says_of t ys put n r = (old : List Tok) → length old ≡ n → Says r ((es : L
 
 is_true : (r : Bool) → T r → r ≡ true
 is_true true h = refl
+is_true false h = elim h [ ]
 
 is_false : (r : Bool) → T (not r) → r ≡ false
+is_false true h = elim h [ ]
 is_false false h = refl
 
 module _ {t old put room : List ℕ} (ys : List Edit) {n : ℕ} (k : Tokens t old room n) {r : Bool} (e : Says_of t ys put n r) where

@@ -1,5 +1,5 @@
-// The edits of an update as a lent slice of structs: the same calls as of crate edits over a row of words. A function that holds the slice is
-// outside the prover's own walk, so there are two, each a loop that hands one edit on by value, and both are proved by hand.
+// The edits of an update as a lent slice of structs: the same calls as of crate edits over a row of words. Each is a loop that hands one
+// edit on by value to functions on numbers of crate edits.
 #![tactic(auto)]
 
 ghost use Rattle.std.specs.Prelude.{◌≡◌, List, ℕ, ◌≤◌, length, drop};
@@ -16,7 +16,7 @@ ghost use Rattle.edit_lists.specs.Words.{edit, words_of};
 
 // "Each edit is a record of place, tokens removed, tokens put in."
 #[repr(C)]
-#[derive(Drop)]
+#[derive(Clone, Copy)]
 pub struct Edit {
     pub place: u32,
     pub removed: u32,

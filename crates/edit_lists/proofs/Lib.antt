@@ -1,3 +1,0 @@
--- What the proofs by hand share.
-pub mod Again
-pub mod Hand
