@@ -1,0 +1,23 @@
+-- `blenkysnow::update` meets its contract: its three stages tell the call. Assumes nothing.
+use lib.ListN.{length}
+use Rattle.reading.specs.Fresh.{told}
+use Rattle.blenkysnow.specs.Update.{tells'}
+use Rattle.blenkysnow.specs.Stages.{may_list, may_end, told_all}
+use Rattle.blenkysnow.proofs.update.Goals as goal
+
+pub list_words-m-requires : goal.list_words-m-requires
+list_words-m-requires c = may_list c.begin-n.ensures
+
+pub finish-requires : goal.finish-requires
+finish-requires c =
+    let b = c.begin-n in
+    let l = c.list_words-m in
+    may_end b.auto.room l.auto.room b.ensures l.ensures
+
+pub returns : goal.returns
+returns c =
+    let a = c.args in
+    let b = c.begin-n in
+    let l = c.list_words-m in
+    let q = tells' a.table.now a.old.now a.edits.now a.put.now a.tree.now a.room.now (told_all b.auto.room l.auto.room b.ensures l.ensures c.finish.ensures) in
+    record { room_after = q.0; updated_all = q.1 }
