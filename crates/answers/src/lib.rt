@@ -8,7 +8,7 @@ ghost use Rattle.definitions.specs.Answers.{counts_of as countsIn};
 ghost use Rattle.answers.specs.Values.{counts_of, value_of, number_of, place_of};
 
 // The five counts of an accepted call.
-#[derive(Drop)]
+#[derive(Clone, Copy)]
 pub struct Counts {
     pub lefts: u32,
     pub rights: u32,
@@ -18,7 +18,7 @@ pub struct Counts {
 }
 
 // An answer: accepted with the counts, or refused.
-#[derive(Drop)]
+#[derive(Clone, Copy)]
 pub enum Answer {
     Accepted(Counts),
     // 1: the tree to write or the room is too small

@@ -53,7 +53,7 @@ pub fn codes_known(t: &[u8], codes: &[u32], n: usize) -> bool
 
 // A walk over the edits: where the last one ends, the codes that they use and the tokens that they remove. Once their rules are broken it
 // ends behind all old tokens, where no edit fits.
-#[derive(Drop)]
+#[derive(Clone, Copy)]
 pub struct Walk {
     pub from: usize,
     pub used: usize,
@@ -174,7 +174,7 @@ fn inside(i: usize, until: usize) -> usize
 
 // How far the marks are written: up to place `at`. The edits passed put in `puts` tokens and remove tokens up to `until`; `out` tokens before
 // `at` are removed.
-#[derive(Drop)]
+#[derive(Clone, Copy)]
 pub struct Marks {
     pub at: usize,
     pub puts: usize,

@@ -31,7 +31,7 @@ pub const ROOM: usize = 16384;
 // ---- the table's moves
 
 // An action: the state that a shift leads to, the production that a reduction is by.
-#[derive(Drop)]
+#[derive(Clone, Copy)]
 pub enum Act {
     Error,
     Accept,
@@ -40,7 +40,7 @@ pub enum Act {
 }
 
 // A goto: a state, or none.
-#[derive(Drop)]
+#[derive(Clone, Copy)]
 pub enum Goto {
     To(u32),
     Nowhere,
@@ -157,7 +157,7 @@ pub fn shift(room: &mut [u32], n: usize, s: u32, kind: u32, number: u32)
 }
 
 // What lies under some pieces: so many nodes, or the bottom comes first.
-#[derive(Drop)]
+#[derive(Clone, Copy)]
 pub enum Back {
     To(usize),
     Under,
@@ -182,7 +182,7 @@ pub fn pop_to(room: &[u32], n: usize, d: usize) -> Back
 }
 
 // Whether a reduction finds its pieces and a goto.
-#[derive(Drop)]
+#[derive(Clone, Copy)]
 pub enum Landing {
     On,
     Nowhere,
@@ -217,7 +217,7 @@ pub fn reduce(t: &[u8], room: &mut [u32], n: usize, p: usize) -> Landing
 // ---- a turn
 
 // What the turn of a token or the end mark comes to: one node more, accepted, or the refusal.
-#[derive(Drop)]
+#[derive(Clone, Copy)]
 pub enum Step {
     Shifted,
     Reduced,

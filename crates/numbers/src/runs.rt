@@ -158,7 +158,7 @@ fn put_run(
 
 // A walk over the records: `at` is next; the last token stands before `last` and has the word `shift`; its run starts at `start`; the next old
 // token is sought from the old record `from` on.
-#[derive(Drop)]
+#[derive(Clone, Copy)]
 pub struct Run {
     pub at: usize,
     pub last: usize,

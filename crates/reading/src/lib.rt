@@ -23,7 +23,7 @@ use answers::{Answer, Counts};
 use machine::Step;
 
 // How the machine ends: accepted, with the nodes held and the tokens shifted; or refused, with the tokens shifted for refusal 7.
-#[derive(Drop)]
+#[derive(Clone, Copy)]
 pub enum End {
     Taken(usize, usize),
     NoAction(usize),
@@ -32,7 +32,7 @@ pub enum End {
 }
 
 // A turn: one node more, with the tokens shifted by then; or the end.
-#[derive(Drop)]
+#[derive(Clone, Copy)]
 pub enum Turn {
     Next(usize),
     Stop(End),

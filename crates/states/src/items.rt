@@ -77,7 +77,7 @@ fn key_of(t: &[u8], s: usize, at: usize, n: usize, i: usize) -> usize
 // ---- find an item
 
 // An item of a state, or that it is not there.
-#[derive(Drop)]
+#[derive(Clone, Copy)]
 pub enum Found {
     At(usize),
     Nothing,

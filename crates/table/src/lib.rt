@@ -226,7 +226,7 @@ fn state_code(
 // ---- the search
 
 // What the search found: nothing broken, or a condition and the state where it is broken.
-#[derive(Drop)]
+#[derive(Clone, Copy)]
 pub enum Broken {
     Nothing,
     At(u8, usize),
@@ -275,7 +275,7 @@ pub fn first_broken(
 // ---- the answer
 
 // The answer of the table check: yes, or what is refused.
-#[derive(Drop)]
+#[derive(Clone, Copy)]
 pub enum Check {
     // the table is taken
     Yes,

@@ -32,7 +32,7 @@ mod shifting;
 
 // What a turn comes to: a token shifted; a reduction; a piece shifted whole, with the nodes held then and the right-breaks; a left-break, with the
 // words of the list then; accepted; or the refusal.
-#[derive(Drop)]
+#[derive(Clone, Copy)]
 pub enum Turn {
     Shifted,
     Reduced,
@@ -181,7 +181,7 @@ fn take_turn<'a>(
 // ---- the reading of the list
 
 // How a reading ends: accepted, with the nodes held and the five counts; or refused, with the tokens shifted for refusal 7.
-#[derive(Drop)]
+#[derive(Clone, Copy)]
 pub enum End {
     Taken(usize, Counts),
     NoAction(usize),

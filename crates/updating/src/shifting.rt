@@ -132,7 +132,7 @@ fn breaks_of(run: &[u32], m: usize) -> usize
 }
 
 // What a whole shift comes to: the nodes held then, and the right-breaks; or no room.
-#[derive(Drop)]
+#[derive(Clone, Copy)]
 pub enum Whole {
     Held(usize, usize),
     Full,
