@@ -1,8 +1,6 @@
 -- A tree in order has its records and its tokens within the row, and edits judged right are in order.
-use Rattle.std.proofs.Common.{arith, ◌≡◌, ◌+◌, length, get_or}
+use Rattle.std.proofs.Common.{arith}
 use Rattle.definitions.specs.Tree.{yield, erase}
-use Rattle.tree.specs.Tokens.{Counts}
-use Rattle.list.specs.Pending.{tokens_at}
 use Rattle.judge.specs.Listing.{few, held, small, many}
 use Rattle.judge.proofs.listed.tell_edits.Goals as goal
 
