@@ -2,11 +2,8 @@
 use Rattle.std.specs.Prelude.{◌≡◌, List, ℕ, ◌≤◌, length}
 use Rattle.std.proofs.Common.{subst}
 use Rattle.judge.specs.declared.input.Got.{Got}
-use Rattle.judge.specs.declared.input.Got.TheVariants as Got
 use Rattle.judge.specs.declared.input.Edited.{Edited}
-use Rattle.judge.specs.declared.input.Edited.TheVariants as Edited
 use Rattle.judge.specs.declared.input.Lent.{Lent}
-use Rattle.judge.specs.declared.input.Lent.TheVariants as Lent
 
 abbrev pub Within : ℕ → Got → Type 0
 Within most (Got.Number n) = n ≤ most

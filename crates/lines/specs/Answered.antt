@@ -4,7 +4,7 @@ use Rattle.std.proofs.Common.{sym, ap, ◌∙◌, arith}
 use Rattle.definitions.specs.Reading as Reading
 use Rattle.definitions.specs.Answers.{refusal, accepted, Told}
 use Rattle.theory.specs.Demands.Afresh.{read, seven, eight, nine}
-use Rattle.theory.specs.Demands.Calls.{Judges, one, two, three, four, next, ReadsText, six, reads, Afreshed}
+use Rattle.theory.specs.Demands.Calls.{one, two, three, four, next, six, reads, Afreshed}
 use Rattle.reading.specs.Fresh.{told}
 use Rattle.answers.specs.Values.{counts_of, value_of, number_of, place_of}
 use Rattle.answers.specs.declared.Answer.{Answer}

@@ -1,0 +1,10 @@
+-- The bytes before i are put. The measure is the bytes left.
+use Rattle.std.proofs.Common.{◌+◌, ◌-◌, ◌≤◌, length, take}
+use Rattle.lines.specs.Put.{Put}
+use Rattle.lines.proofs.put_text.Given as goal
+
+abbrev pub invariant-loop-i : goal.invariant-loop-i
+invariant-loop-i l = record { within : l.i ≤ length l.text; put : Put l.fn.out l.at (take l.i l.text) l.out (l.at + l.i) }
+
+abbrev pub decreases-loop-i : goal.decreases-loop-i
+decreases-loop-i l = length l.text - l.i
