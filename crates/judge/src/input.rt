@@ -4,7 +4,7 @@ ghost use Rattle.std.specs.Prelude.{◌+◌, ◌≤◌, length};
 ghost use Rattle.judge.specs.Fields.{Within, Rows, Lends};
 
 // A number of the input, or that the input broke off or went past a limit.
-#[derive(Drop)]
+#[derive(Clone, Copy)]
 pub enum Got {
     Number(usize),
     Broken,
@@ -12,7 +12,7 @@ pub enum Got {
 
 // What a case is: a table, with the broken condition named or not; a reading or an update, made so many times; a reading list. Or the
 // input's end, or a letter that is none or whose number is missing.
-#[derive(Drop)]
+#[derive(Clone, Copy)]
 pub enum Kind {
     End,
     Table(bool),
@@ -23,14 +23,14 @@ pub enum Kind {
 }
 
 // How much of each of its rows an update has: the table's bytes, the words of the old row, of the edits and of the inserted codes.
-#[derive(Drop)]
+#[derive(Clone, Copy)]
 pub enum Edited {
     Parts(usize, usize, usize, usize),
     Broken,
 }
 
 // How many words of the tree and of the room are lent.
-#[derive(Drop)]
+#[derive(Clone, Copy)]
 pub enum Lent {
     Words(usize, usize),
     Broken,

@@ -13,10 +13,10 @@ use Rattle.blenkysnow.proofs.begin.Goals.{Else-not-enough}
 
 -- room enough is lent
 lent : (c : Else-not-enough) → let a = c.args in Long a.wide (length a.room.now)
-lent c = c.enough.ensures.to (not-false _ c.if-not-enough.false-raw)
+lent c = c.enough.ensures.to c.if-not-enough.false
 
 pub returns-then-not-enough : goal.returns-then-not-enough
-returns-then-not-enough c = one (refused c.enough.ensures (not-true _ c.if-not-enough.true-raw)) refl refl
+returns-then-not-enough c = one (refused c.enough.ensures c.if-not-enough.true) refl refl
 
 pub old_tokens-requires : goal.old_tokens-requires
 old_tokens-requires c =

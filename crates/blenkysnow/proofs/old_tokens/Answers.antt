@@ -16,14 +16,14 @@ use Rattle.blenkysnow.proofs.old_tokens.Goals.{Else-not-in_order}
 
 -- the old tree
 tree_of_lem : (c : Else-not-in_order) → let a = c.args in (r : NRow) × InOrder a.t.now a.old.now r
-tree_of_lem c = c.in_order.ensures.says.to (not-false _ c.if-not-in_order.false-raw)
+tree_of_lem c = c.in_order.ensures.says.to c.if-not-in_order.false
 
 held : (c : Else-not-in_order) → Holds c.args.old.now
 held c = let a = c.args in let T = tree_of_lem c in shape_holds a.t.now a.old.now (T.0, order_shape a.t.now a.old.now T.0 T.1)
 
 pub returns-then-not-in_order : goal.returns-then-not-in_order
 returns-then-not-in_order c = record {
-      old_tokens = five (refused c.in_order.ensures.says (not-true _ c.if-not-in_order.true-raw)) refl;
+      old_tokens = five (refused c.in_order.ensures.says c.if-not-in_order.true) refl;
       room_unchanged = c.in_order.ensures.room_unchanged;
     }
 

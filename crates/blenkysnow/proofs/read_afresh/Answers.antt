@@ -17,12 +17,12 @@ use Rattle.blenkysnow.proofs.read_afresh.Goals.{Else-not-enough}
 
 -- room enough is lent
 lent : (c : Else-not-enough) → let a = c.args in Long (length a.tree.now) (length a.room.now)
-lent c = c.enough.ensures.to (not-false _ c.if-not-enough.false-raw)
+lent c = c.enough.ensures.to c.if-not-enough.false
 
 pub returns-then-not-enough : goal.returns-then-not-enough
 returns-then-not-enough c =
     let a = c.args in
-    let q = tells a.table.now a.codes.now a.first a.tree.now a.room.now (sym (too_short _ _ _ _ _ (λ e. refused c.enough.ensures (not-true _ c.if-not-enough.true-raw) (e.wide, e.roomy)))) in
+    let q = tells a.table.now a.codes.now a.first a.tree.now a.room.now (sym (too_short _ _ _ _ _ (λ e. refused c.enough.ensures c.if-not-enough.true (e.wide, e.roomy)))) in
     record { room_after = q.0; afreshed = q.1 }
 
 pub refuse-requires : goal.refuse-requires

@@ -11,14 +11,14 @@ use Rattle.blenkysnow.proofs.read_taken.Goals as goal
 pub returns-then-not-text_right : goal.returns-then-not-text_right
 returns-then-not-text_right c =
     ap (told Text _) c.wipe.ensures
-    ∙ sym (if_no (text_in _ _ _) _ _ (refused c.text_right.ensures (not-true _ c.if-not-text_right.true-raw)))
+    ∙ sym (if_no (text_in _ _ _) _ _ (refused c.text_right.ensures c.if-not-text_right.true))
 
 pub read_text-requires : goal.read_text-requires
 read_text-requires c =
     let p = c.requires in
-    (p.0, c.text_right.ensures.to (not-false _ c.if-not-text_right.false-raw), p.1, p.2)
+    (p.0, c.text_right.ensures.to c.if-not-text_right.false, p.1, p.2)
 
 pub returns : goal.returns
 returns c =
     c.read_text.ensures
-    ∙ sym (if_yes (text_in _ _ _) _ _ (c.text_right.ensures.to (not-false _ c.if-not-text_right.false-raw)))
+    ∙ sym (if_yes (text_in _ _ _) _ _ (c.text_right.ensures.to c.if-not-text_right.false))

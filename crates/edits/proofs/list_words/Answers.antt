@@ -17,7 +17,7 @@ counted c = let h = c.if-n-gt2048.false in c.requires (omega arith)
 judged : (c : After-edits_right) (r : NRow) → let a = c.args in InOrder a.t.now a.old.now r
     → Says c.edits_right.result (InOrderOf a.t.now a.old.now a.edits.now a.put.now r)
 judged c r O =
-    let counted' : let a = c.before.args in Tokens a.t.now a.old.now a.room.now a.n = let h = c.before.if-n-gt2048.false in c.before.requires (omega arith) in
+    let counted' : let a = c.args in Tokens a.t.now a.old.now a.room.now a.n = let h = c.if-n-gt2048.false in c.requires (omega arith) in
     c.edits_right.ensures (yield (erase r)) ((counted').many r O)
 
 pub returns-then-n-gt2048 : goal.returns-then-n-gt2048
@@ -27,12 +27,12 @@ pub edits_right-requires : goal.edits_right-requires
 edits_right-requires c = let h = c.if-n-gt2048.false in ((counted c).layout, omega arith)
 
 pub returns-then-not-edits_right : goal.returns-then-not-edits_right
-returns-then-not-edits_right c = let h = c.if-n-gt2048.false in six (omega arith) refl refl (λ r O. refused (judged (goal.at.returns-then-not-edits_right c).After-edits_right r O) (not-true _ c.if-not-edits_right.true-raw))
+returns-then-not-edits_right c = let h = c.if-n-gt2048.false in six (omega arith) refl refl (λ r O. refused (judged (goal.at.returns-then-not-edits_right c).After-edits_right r O) c.if-not-edits_right.true)
 
 pub make_list-requires : goal.make_list-requires
 make_list-requires c =
     let k = counted (goal.at.make_list-requires c).Else-n-gt2048 in
-    let o = (judged (goal.at.make_list-requires c).After-edits_right k.tree k.stands).to (not-false _ c.if-not-edits_right.false-raw) in
+    let o = (judged (goal.at.make_list-requires c).After-edits_right k.tree k.stands).to c.if-not-edits_right.false in
     record {
       in_bounds = k.roomy;
       by_index = (c.args.t.now, k.tree, o.0, tokens_few k, k.stands, o.1);
@@ -46,7 +46,7 @@ returns c =
     made (omega arith)
     (record {
       small = l.upper_bound.0;
-      order = λ r O. (judged (goal.at.returns c).After-edits_right r O).to (not-false _ c.if-not-edits_right.false-raw);
+      order = λ r O. (judged (goal.at.returns c).After-edits_right r O).to c.if-not-edits_right.false;
       pending = λ r es O E. l.by_index_2 c.args.t.now r es (tokens_few k) O E;
       counted = l.upper_bound.1;
       rest = l.upper_bound.2;

@@ -2,7 +2,6 @@
 use native.Mathlib.Omega.{arith}
 use lib.ListN.{length}
 use Rattle.theory.specs.Check.Says.{says_no, says_as, says_le}
-use borrow.Author.Rules.{rules}
 use Rattle.layout.proofs.head_fits.Goals as goal
 
 pub returns-then-t-lt9 : goal.returns-then-t-lt9
@@ -10,5 +9,5 @@ returns-then-t-lt9 c = says_no (λ h. omega arith)
 
 pub returns : goal.returns
 returns c =
-    let t = c.before.before.before.args.t.now in
+    let t = c.args.t.now in
     says_as (says_le c.items_at.result (length t)) (λ h. omega arith) (λ h. omega arith)

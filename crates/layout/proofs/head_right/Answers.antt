@@ -1,21 +1,16 @@
 -- `layout::head_right` meets its contract: each of its tests is that of a field. Assumes nothing.
 use Rattle.theory.specs.Check.Says.{says_as, says_and, says_eq}
-use borrow.Author.Rules.{rules}
 use Rattle.layout.proofs.head_right.Goals as goal
 
 pub returns : goal.returns
 returns c =
-    let s = c.before in
-    let p = s.before.before in
-    let n = p.before.before in
-    let m = n.before.before in
-    rw m.before.word-version.ensures.0
+    rw c.word-version.ensures.0
     (says_as
     (says_and (says_and (says_and (says_and (says_and (says_and (says_and (says_eq _ _) (says_eq _ _)) (says_eq _ _)) (says_eq _ _))
-    (rw m.terminals_of.ensures.0 at n.before.between-terminals.ensures))
-    (rw n.nonterminals_of.ensures.0 at p.before.between-nonterminals.ensures))
-    (rw p.productions_of.ensures.0 at s.before.between-productions.ensures))
-    (rw s.states_of.ensures.0 at c.between-states.ensures))
+    (rw c.terminals_of.ensures.0 at c.between-terminals.ensures))
+    (rw c.nonterminals_of.ensures.0 at c.between-nonterminals.ensures))
+    (rw c.productions_of.ensures.0 at c.between-productions.ensures))
+    (rw c.states_of.ensures.0 at c.between-states.ensures))
     (λ h. record {
       letters = h.0.0.0.0.0;
       version = h.0.0.0.0.1;

@@ -4,24 +4,23 @@ use native.Mathlib.Omega.{arith}
 use Rattle.theory.specs.Check.Says.{says_no}
 use Rattle.sheet.specs.Places.{prod_at}
 use Rattle.layout.proofs.Laws.{says_item}
-use borrow.Author.Rules.{rules}
 use Rattle.layout.proofs.item_right.Goals as goal
 
 pub returns-then-p-productions : goal.returns-then-p-productions
 returns-then-p-productions c s i e =
-    let a = c.before.before.before.before.args in
+    let a = c.args in
     says_no (λ h. let n = h.named in omega (arith, prod_at a.t.now a.at s i e))
 
 pub returns : goal.returns
 returns c s i e =
-    let a = c.before.before.before.before.before.before.before.before.args in
-    let p = c.before.before.before.before.before.wide-p in
-    says_item a.t.now s i a.at p.result c.before.before.dot.result c.before.len.result
-    c.before.before.before.eight-ahead.result a.all e
-    (p.ensures.0 ∙ c.before.before.before.before.before.before.prod.ensures)
-    c.before.before.dot.ensures
-    c.before.len.ensures
-    c.before.before.before.eight-ahead.ensures
+    let a = c.args in
+    let p = c.wide-p in
+    says_item a.t.now s i a.at p.result c.dot.result c.len.result
+    c.eight-ahead.result a.all e
+    (p.ensures.0 ∙ c.prod.ensures)
+    c.dot.ensures
+    c.len.ensures
+    c.eight-ahead.ensures
     (omega arith)
     (omega arith)
     c.is_set.ensures

@@ -2,12 +2,9 @@
 -- Assumes nothing.
 use mathlib.Core.Path.{◌≡◌}
 use Prim.Native.Nat.{ℕ, ◌-◌, ◌≤◌}
-use native.Mathlib.Omega.{arith}
-use Rattle.definitions.specs.Sheet.{state_at, count}
+use Rattle.definitions.specs.Sheet.{state_at}
 use Rattle.theory.specs.Check.Says.{Says}
-use Rattle.sheet.specs.Places.{count_at}
-use Rattle.layout.proofs.Laws.{Upto, upto_one, upto_more, upto_all}
-use borrow.Author.Rules.{rules}
+use Rattle.layout.proofs.Laws.{Upto}
 use Rattle.layout.proofs.items_right.Given as goal
 
 abbrev pub invariant-loop-i : goal.invariant-loop-i

@@ -1,12 +1,8 @@
 -- `layout::production_right` meets its contract. The loop's invariant: the test so far is that of the symbols passed. Assumes nothing.
-use mathlib.Core.Path.{◌∙◌}
 use Prim.Native.Nat.{ℕ, ◌-◌, ◌≤◌, ◌<◌}
-use native.Mathlib.Omega.{arith}
 use Rattle.definitions.specs.Sheet.{symbol}
 use Rattle.theory.specs.Check.Says.{Says}
 use Rattle.layout.specs.Parts.{Placed}
-use Rattle.layout.proofs.Laws.{none, one_more, up_to, says_production}
-use borrow.Author.Rules.{rules}
 use Rattle.layout.proofs.production_right.Given as goal
 
 abbrev pub invariant-loop-k : goal.invariant-loop-k

@@ -1,10 +1,7 @@
 -- `layout::productions_right` meets its contract. The loop's invariant: the test so far is that of the productions passed. Assumes nothing.
 use Prim.Native.Nat.{ℕ, ◌-◌, ◌≤◌, ◌<◌}
-use native.Mathlib.Omega.{arith}
 use Rattle.definitions.specs.Sheet.{Production}
 use Rattle.theory.specs.Check.Says.{Says}
-use Rattle.layout.proofs.Laws.{none, one_more, up_to}
-use borrow.Author.Rules.{rules}
 use Rattle.layout.proofs.productions_right.Given as goal
 
 abbrev pub invariant-loop-p : goal.invariant-loop-p

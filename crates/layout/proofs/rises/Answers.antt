@@ -2,11 +2,10 @@
 -- Assumes nothing.
 use Rattle.sheet.specs.Sizes.{lent_bytes}
 use Rattle.layout.proofs.Laws.{says_rising}
-use borrow.Author.Rules.{rules}
 use Rattle.layout.proofs.rises.Goals as goal
 
 pub returns : goal.returns
 returns c s i e =
-    let a = c.before.before.before.args in
-    rw (c.before.word.ensures.0, c.word-2.ensures.0)
-    (says_rising a.t.now (lent_bytes a.t.now c.before.before.shared_slice_known-1.given) s i a.at e)
+    let a = c.args in
+    rw (c.word.ensures.0, c.word-2.ensures.0)
+    (says_rising a.t.now (lent_bytes a.t.now c.type_inv.t) s i a.at e)

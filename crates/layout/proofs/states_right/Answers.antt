@@ -1,35 +1,32 @@
 -- `layout::states_right` meets its contract. The loop's invariant: the walk has come to state s, and all was right. Assumes nothing.
-use Prim.Native.Nat.{◌-◌, ◌≤◌}
+use Rattle.std.proofs.Common.{ap, not}
 use native.Mathlib.Omega.{arith}
 use Rattle.definitions.specs.Sheet.{State}
 use Rattle.layout.specs.Parts.{Fits}
-use Rattle.layout.proofs.Laws.{part_refused, passed, Walked, walked_none, walked_more, walked_on, walked_all}
-use borrow.Author.Rules.{rules}
+use Rattle.layout.proofs.Laws.{part_refused, passed, walked_none, walked_more, walked_on, walked_all}
 use Rattle.layout.proofs.states_right.Goals as goal
 use Rattle.layout.proofs.states_right.Goals.{Else-not-state_right}
 
 -- the state that the walk has come to fits and is right
-found : (c : Else-not-state_right) → let l = c.before.before.before in
-    let t = l.before.before.before.before.before.before.before.args.t.now in
-    Fits t l.loop-s.at l.loop-s.passed × State t l.loop-s.s
+found : (c : Else-not-state_right) → let t = c.args.t.now in
+    Fits t c.loop-s.at c.loop-s.passed × State t c.loop-s.s
 found c =
-    let w = c.before.before.before.loop-s in
-    passed (c.before.state_right.ensures w.s w.invariant.1.place) c.if-not-state_right.false-raw
+    let w = c.loop-s in
+    passed (c.state_right.ensures w.s w.invariant.1.place) (ap not c.if-not-state_right.false)
 
 pub loop-s-init : goal.loop-s-init
 loop-s-init c =
-    let t = c.before.before.before.before.before.before.args.t.now in
+    let t = c.args.t.now in
     (omega arith, walked_none t c.items_at-at.result c.items_at-at.ensures.0 (omega arith))
 
 pub state_right-requires : goal.state_right-requires
 state_right-requires c =
-    let i = c.before.before in
-    let w = c.before.loop-s.invariant.1 in
-    let a = i.before.before.before.all_terminals-all.ensures in (
+    let w = c.loop-s.invariant.1 in
+    let a = c.all_terminals-all.ensures in (
       record {
         room = omega arith;
-        named = i.before.before.productions_of-productions.ensures.0;
-        sets = rw i.before.before.before.before.terminals_of.ensures.0 at a;
+        named = c.productions_of-productions.ensures.0;
+        sets = rw c.terminals_of.ensures.0 at a;
       },
       w.within,
       w.few,
@@ -37,10 +34,9 @@ state_right-requires c =
 
 pub returns-then-not-state_right : goal.returns-then-not-state_right
 returns-then-not-state_right c =
-    let l = c.before.before.before in
-    let t = l.before.before.before.before.before.before.before.args.t.now in
-    let w = l.loop-s in
-    part_refused (c.before.state_right.ensures w.s w.invariant.1.place) c.if-not-state_right.true-raw
+    let t = c.args.t.now in
+    let w = c.loop-s in
+    part_refused (c.state_right.ensures w.s w.invariant.1.place) (ap not c.if-not-state_right.true)
     (walked_on t w.s w.at w.passed w.invariant.1 (omega arith))
 
 pub count-passed-requires : goal.count-passed-requires
@@ -54,15 +50,12 @@ next_state-at-requires c = let x = (found (goal.at.next_state-at-requires c).Els
 
 pub loop-s-preserved : goal.loop-s-preserved
 loop-s-preserved c =
-    let e = c.before.before in
-    let l = e.before.before.before in
-    let t = l.before.before.before.before.before.before.before.args.t.now in
-    let w = l.loop-s in
+    let t = c.args.t.now in
+    let w = c.loop-s in
     let x = found (goal.at.loop-s-preserved c).Else-not-state_right in
     (omega arith, walked_more t w.s w.at w.passed _ _ w.invariant.1 x.0 x.1 c.next_state-at.ensures (omega arith))
 
 pub returns : goal.returns
 returns c =
-    let l = c.before in
-    let t = l.before.before.before.before.before.before.before.args.t.now in
-    walked_all t l.loop-s.s l.loop-s.at l.loop-s.passed (omega arith) l.loop-s.invariant.1
+    let t = c.args.t.now in
+    walked_all t c.loop-s.s c.loop-s.at c.loop-s.passed (omega arith) c.loop-s.invariant.1

@@ -1,10 +1,6 @@
 -- `layout::states_right` meets its contract. The loop's invariant: the walk has come to state s, and all was right. Assumes nothing.
 use Prim.Native.Nat.{◌-◌, ◌≤◌}
-use native.Mathlib.Omega.{arith}
-use Rattle.definitions.specs.Sheet.{State}
-use Rattle.layout.specs.Parts.{Fits}
-use Rattle.layout.proofs.Laws.{part_refused, passed, Walked, walked_none, walked_more, walked_on, walked_all}
-use borrow.Author.Rules.{rules}
+use Rattle.layout.proofs.Laws.{Walked}
 use Rattle.layout.proofs.states_right.Given as goal
 
 abbrev pub invariant-loop-s : goal.invariant-loop-s

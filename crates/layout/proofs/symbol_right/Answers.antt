@@ -1,7 +1,6 @@
 -- `layout::symbol_right` meets its contract: a place is used, or not. Assumes nothing.
 use native.Mathlib.Omega.{arith}
 use Rattle.theory.specs.Check.Says.{says_as, says_eq}
-use borrow.Author.Rules.{rules}
 use Rattle.layout.proofs.symbol_right.Goals as goal
 
 pub returns-then-k-n : goal.returns-then-k-n

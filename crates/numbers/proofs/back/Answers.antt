@@ -13,8 +13,8 @@ overflow_sub-a c =
 
 pub copy-requires : goal.copy-requires
 copy-requires c =
-    (c.requires.in_bounds, omega arith, c.requires.e_nonzero.1, rw (c.spot_of-w.ensures, c.before.size_of.ensures.0) (c.requires.reaches (omega (arith, c.spot_of-w.ensures, c.if-w-lt2.false))))
+    (c.requires.in_bounds, omega arith, c.requires.e_nonzero.1, rw (c.spot_of-w.ensures, c.size_of.ensures.0) (c.requires.reaches (omega (arith, c.spot_of-w.ensures, c.if-w-lt2.false))))
 
 pub returns : goal.returns
 returns c =
-    whole (omega (arith, c.spot_of-w.ensures, c.if-w-lt2.false)) (omega (arith, c.before.before.before.before.size_of.ensures.0, c.requires.e_bound)) (rw c.spot_of-w.ensures at c.copy.ensures)
+    whole (omega (arith, c.spot_of-w.ensures, c.if-w-lt2.false)) (omega (arith, c.size_of.ensures.0, c.requires.e_bound)) (rw c.spot_of-w.ensures at c.copy.ensures)

@@ -3,12 +3,11 @@ use mathlib.Core.Path.{◌≡◌, ap, ◌∙◌}
 use Prim.Native.Nat.{◌*◌}
 use native.Mathlib.Omega.{arith}
 use Rattle.definitions.specs.Sheet.{T, word}
-use borrow.Author.Rules.{rules}
 use Rattle.sheet.proofs.action.Goals as goal
 use Rattle.sheet.proofs.action.Goals.{After-terminals_of}
 
 -- the row of actions that the code goes to is the definition's
-row : (c : After-terminals_of) → let a = c.before.before.before.args in a.s * c.terminals_of.result ≡ a.s * T a.t.now
+row : (c : After-terminals_of) → let a = c.args in a.s * c.terminals_of.result ≡ a.s * T a.t.now
 row c = cc
 
 pub overflow_mul-s : goal.overflow_mul-s
@@ -28,5 +27,5 @@ word-requires c = omega (arith, row c)
 
 pub returns : goal.returns
 returns c =
-    let t = c.before.before.before.before.args.t.now in
+    let t = c.args.t.now in
     (c.word.ensures.0 ∙ ap (word t) (omega (arith, row (goal.at.returns c).After-terminals_of)), c.word.ensures.1)

@@ -3,12 +3,11 @@ use mathlib.Core.Path.{◌≡◌, ap, ◌∙◌}
 use Prim.Native.Nat.{◌*◌}
 use native.Mathlib.Omega.{arith}
 use Rattle.definitions.specs.Sheet.{N, byte}
-use borrow.Author.Rules.{rules}
 use Rattle.sheet.proofs.goto_byte.Goals as goal
 use Rattle.sheet.proofs.goto_byte.Goals.{After-nonterminals_of}
 
 -- the row of gotos that the code goes to is the definition's
-row : (c : After-nonterminals_of) → let a = c.before.before.before.args in a.s * c.nonterminals_of.result ≡ a.s * N a.t.now
+row : (c : After-nonterminals_of) → let a = c.args in a.s * c.nonterminals_of.result ≡ a.s * N a.t.now
 row c = cc
 
 pub overflow_mul-s : goal.overflow_mul-s
@@ -25,5 +24,5 @@ byte-requires c = omega (arith, row c)
 
 pub returns : goal.returns
 returns c =
-    let t = c.before.before.before.before.args.t.now in
+    let t = c.args.t.now in
     c.byte.ensures ∙ ap (byte t) (omega (arith, row (goal.at.returns c).After-nonterminals_of))

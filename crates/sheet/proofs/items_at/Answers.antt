@@ -3,11 +3,10 @@ use mathlib.Core.Path.{◌≡◌}
 use Prim.Native.Nat.{◌*◌}
 use native.Mathlib.Omega.{arith}
 use Rattle.definitions.specs.Sheet.{N, S}
-use borrow.Author.Rules.{rules}
 use Rattle.sheet.proofs.items_at.Goals as goal
 
 pub returns : goal.returns
 returns c =
-    let t = c.before.before.before.before.before.args.t.now in
+    let t = c.args.t.now in
     let e : c.product.result ≡ S t * N t = cc in
     omega arith

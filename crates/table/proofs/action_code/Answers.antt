@@ -7,7 +7,7 @@ use Rattle.table.specs.Codes.{tells_none, tells_some, five, six}
 use Rattle.table.proofs.action_code.Goals as goal
 
 pub returns-then-not-action_kept : goal.returns-then-not-action_kept
-returns-then-not-action_kept c = tells_some 5 (λ e. omega arith) (five (refused c.action_kept.ensures (not-true _ c.if-not-action_kept.true-raw)))
+returns-then-not-action_kept c = tells_some 5 (λ e. omega arith) (five (refused c.action_kept.ensures c.if-not-action_kept.true))
 
 pub into_right-requires : goal.into_right-requires
 into_right-requires c =
@@ -18,7 +18,7 @@ into_right-requires c =
     }
 
 pub returns-then-into_right : goal.returns-then-into_right
-returns-then-into_right c = tells_none (c.action_kept.ensures.to (not-false _ c.if-not-action_kept.false-raw), c.into_right.ensures.to c.if-into_right.true)
+returns-then-into_right c = tells_none (c.action_kept.ensures.to c.if-not-action_kept.false, c.into_right.ensures.to c.if-into_right.true)
 
 pub returns-else-into_right : goal.returns-else-into_right
 returns-else-into_right c = tells_some 6 (λ e. omega arith) (six (refused c.into_right.ensures c.if-into_right.false))

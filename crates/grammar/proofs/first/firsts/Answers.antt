@@ -23,10 +23,10 @@ pub returns-then-not-round : goal.returns-then-not-round
 returns-then-not-round c =
     let l = c.loop-nullable in
     firsts_found _ c.requires.rights.layout l.found _ l.invariant.1
-    (subst (Turn c.args.t.now 0 (P c.args.t.now) l.found c.round.new.firsts) (not-true _ c.if-not-round.true-raw) c.round.ensures)
+    (subst (Turn c.args.t.now 0 (P c.args.t.now) l.found c.round.new.firsts) c.if-not-round.true c.round.ensures)
 
 pub loop-nullable-smaller : goal.loop-nullable-smaller
-loop-nullable-smaller c = c.round.ensures.falls (not-false _ c.if-not-round.false-raw)
+loop-nullable-smaller c = c.round.ensures.falls c.if-not-round.false
 
 pub loop-nullable-preserved : goal.loop-nullable-preserved
 loop-nullable-preserved c =

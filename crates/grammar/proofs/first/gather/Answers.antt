@@ -44,7 +44,7 @@ starts-requires c = c.symbol_at-x.ensures.1
 pub returns-then-not-passes : goal.returns-then-not-passes
 returns-then-not-passes c =
     seen_stop _ _ _ _ c.loop-k.k c.loop-k.r.bits c.starts.result.bits _ c.loop-k.invariant.3 (told (goal.at.returns-then-not-passes c).After-join-r) c.join-r.ensures _ (omega arith)
-    (refused (tested (goal.at.returns-then-not-passes c).After-passes) (not-true _ c.if-not-passes.true-raw))
+    (refused (tested (goal.at.returns-then-not-passes c).After-passes) c.if-not-passes.true)
 
 pub loop-k-preserved : goal.loop-k-preserved
 loop-k-preserved c =
@@ -53,7 +53,7 @@ loop-k-preserved c =
       search rules,
       omega arith,
       seen_next _ _ _ _ c.loop-k.k c.loop-k.r.bits c.starts.result.bits _ c.loop-k.invariant.3 (told (goal.at.loop-k-preserved c).After-join-r) c.join-r.ensures
-          ((tested (goal.at.loop-k-preserved c).After-passes).to (not-false _ c.if-not-passes.false-raw)),
+          ((tested (goal.at.loop-k-preserved c).After-passes).to c.if-not-passes.false),
     )
 
 pub returns : goal.returns

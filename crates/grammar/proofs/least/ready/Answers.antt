@@ -24,7 +24,7 @@ symbol_at-x-requires c =
 pub returns-then-not-passes : goal.returns-then-not-passes
 returns-then-not-passes c =
     let x = c.symbol_at-x in
-    says_no (λ h. refused c.passes.ensures (not-true _ c.if-not-passes.true-raw) (subst⁻¹ (Passes c.args.tokens c.args.set.bits) x.ensures.0 (h _ (omega arith))))
+    says_no (λ h. refused c.passes.ensures c.if-not-passes.true (subst⁻¹ (Passes c.args.tokens c.args.set.bits) x.ensures.0 (h _ (omega arith))))
 
 pub loop-k-preserved : goal.loop-k-preserved
 loop-k-preserved c =
@@ -32,7 +32,7 @@ loop-k-preserved c =
       search rules,
       search rules,
       omega arith,
-      below_more _ _ c.loop-k.invariant.3 (subst (Passes c.args.tokens c.args.set.bits) x.ensures.0 (c.passes.ensures.to (not-false _ c.if-not-passes.false-raw))),
+      below_more _ _ c.loop-k.invariant.3 (subst (Passes c.args.tokens c.args.set.bits) x.ensures.0 (c.passes.ensures.to c.if-not-passes.false)),
     )
 
 pub returns : goal.returns

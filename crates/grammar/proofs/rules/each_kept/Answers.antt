@@ -24,7 +24,7 @@ inside_kept-requires c = record {
     }
 
 pub returns-then-not-inside_kept : goal.returns-then-not-inside_kept
-returns-then-not-inside_kept c = says_no (λ h. refused c.inside_kept.ensures (not-true _ c.if-not-inside_kept.true-raw) (h _ (omega arith)).0)
+returns-then-not-inside_kept c = says_no (λ h. refused c.inside_kept.ensures c.if-not-inside_kept.true (h _ (omega arith)).0)
 
 pub only_kept-requires : goal.only_kept-requires
 only_kept-requires c =
@@ -35,7 +35,7 @@ only_kept-requires c =
     }
 
 pub returns-then-not-only_kept : goal.returns-then-not-only_kept
-returns-then-not-only_kept c = says_no (λ h. refused c.only_kept.ensures (not-true _ c.if-not-only_kept.true-raw) (h _ (omega arith)).1)
+returns-then-not-only_kept c = says_no (λ h. refused c.only_kept.ensures c.if-not-only_kept.true (h _ (omega arith)).1)
 
 pub loop-p-preserved : goal.loop-p-preserved
 loop-p-preserved c =
@@ -43,7 +43,7 @@ loop-p-preserved c =
       search rules,
       omega arith,
       below_more _ _ c.loop-p.invariant.2
-          (c.inside_kept.ensures.to (not-false _ c.if-not-inside_kept.false-raw), c.only_kept.ensures.to (not-false _ c.if-not-only_kept.false-raw)),
+          (c.inside_kept.ensures.to c.if-not-inside_kept.false, c.only_kept.ensures.to c.if-not-only_kept.false),
     )
 
 pub returns : goal.returns

@@ -15,7 +15,7 @@ low c = let p = c.requires in shift-low p.2.1 p.1 p.2.2 c.if-w-lt2.false
 -- where the run ends
 stops : (c : After-run_end-e) (lent : List ℕ) → let a = c.args in Shape (front lent) a.n → Started a.old.now lent a.m a.n a.room.now a.r → Stops a.old.now (front lent) a.m a.r.shift a.n a.r.at c.run_end-e.result
 stops c lent S K =
-    let low' : 2050 ≤ c.before.before.before.args.r.at + c.before.before.before.args.r.shift = let p = c.before.before.before.requires in shift-low p.2.1 p.1 p.2.2 c.before.before.before.if-w-lt2.false in
+    let low' : 2050 ≤ c.args.r.at + c.args.r.shift = let p = c.requires in shift-low p.2.1 p.1 p.2.2 c.if-w-lt2.false in
     let a = c.args in
     rw K.judging.records at (c.run_end-e.ensures a.r.shift (omega (arith, c.wide.ensures.0, low')))
 

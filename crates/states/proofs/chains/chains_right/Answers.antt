@@ -15,10 +15,10 @@ loop-i-init c = (search rules, λ k h. absurd (not-suc-le-zero h))
 
 pub returns-then-not-ready : goal.returns-then-not-ready
 returns-then-not-ready c =
-    says_no (λ f. refused c.ready.ensures (not-true _ c.if-not-ready.true-raw) (all_ready c.requires.lies.1 f c.loop-i.i (listed c.requires.lies.0 _ c.loop-i-test.true)))
+    says_no (λ f. refused c.ready.ensures c.if-not-ready.true (all_ready c.requires.lies.1 f c.loop-i.i (listed c.requires.lies.0 _ c.loop-i-test.true)))
 
 pub loop-i-preserved : goal.loop-i-preserved
-loop-i-preserved c = (search rules, below_more _ _ c.loop-i.invariant.1 (c.ready.ensures.to (not-false _ c.if-not-ready.false-raw)))
+loop-i-preserved c = (search rules, below_more _ _ c.loop-i.invariant.1 (c.ready.ensures.to c.if-not-ready.false))
 
 pub returns : goal.returns
 returns c =

@@ -15,10 +15,10 @@ loop-i-init c = (search rules, λ k h. absurd (not-suc-le-zero h))
 
 pub returns-then-not-entered_at : goal.returns-then-not-entered_at
 returns-then-not-entered_at c =
-    says_no (λ f. refused c.entered_at.ensures (not-true _ c.if-not-entered_at.true-raw) (all_entered f c.loop-i.i (listed c.requires.lies _ c.loop-i-test.true)))
+    says_no (λ f. refused c.entered_at.ensures c.if-not-entered_at.true (all_entered f c.loop-i.i (listed c.requires.lies _ c.loop-i-test.true)))
 
 pub loop-i-preserved : goal.loop-i-preserved
-loop-i-preserved c = (search rules, below_more _ _ c.loop-i.invariant.1 (c.entered_at.ensures.to (not-false _ c.if-not-entered_at.false-raw)))
+loop-i-preserved c = (search rules, below_more _ _ c.loop-i.invariant.1 (c.entered_at.ensures.to c.if-not-entered_at.false))
 
 pub returns : goal.returns
 returns c =

@@ -8,16 +8,16 @@ use Rattle.states.proofs.firsts.first_right.Goals as goal
 
 pub returns-then-not-firsts_right : goal.returns-then-not-firsts_right
 returns-then-not-firsts_right c =
-    says_no (λ f. refused c.firsts_right.ensures (not-true _ c.if-not-firsts_right.true-raw) (all_first c.args.t.now c.args.s f))
+    says_no (λ f. refused c.firsts_right.ensures c.if-not-firsts_right.true (all_first c.args.t.now c.args.s f))
 
 pub returns-then-s-ne0 : goal.returns-then-s-ne0
 returns-then-s-ne0 c =
-    says_yes (first_all c.args.t.now c.args.s (c.firsts_right.ensures.to (not-false _ c.if-not-firsts_right.false-raw)) (λ e. absurd (c.if-s-ne0.true e)))
+    says_yes (first_all c.args.t.now c.args.s (c.firsts_right.ensures.to c.if-not-firsts_right.false) (λ e. absurd (c.if-s-ne0.true e)))
 
 pub returns-in-At : goal.returns-in-At
 returns-in-At c =
     let k = found_at _ _ c.find-f.ensures c.in-At.is in
-    says_yes (first_all c.args.t.now c.args.s (c.firsts_right.ensures.to (not-false _ c.if-not-firsts_right.false-raw))
+    says_yes (first_all c.args.t.now c.args.s (c.firsts_right.ensures.to c.if-not-firsts_right.false)
     (λ e. record { item = _; listed = k.0; production = sym k.1.production; place = sym k.1.place }))
 
 pub returns-in-Nothing : goal.returns-in-Nothing

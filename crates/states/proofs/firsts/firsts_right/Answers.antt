@@ -15,10 +15,10 @@ loop-i-init c = (search rules, λ k h. absurd (not-suc-le-zero h))
 
 pub returns-then-not-first_at : goal.returns-then-not-first_at
 returns-then-not-first_at c =
-    says_no (λ f. refused c.first_at.ensures (not-true _ c.if-not-first_at.true-raw) (f c.loop-i.i (listed c.requires _ c.loop-i-test.true)))
+    says_no (λ f. refused c.first_at.ensures c.if-not-first_at.true (f c.loop-i.i (listed c.requires _ c.loop-i-test.true)))
 
 pub loop-i-preserved : goal.loop-i-preserved
-loop-i-preserved c = (search rules, below_more _ _ c.loop-i.invariant.1 (c.first_at.ensures.to (not-false _ c.if-not-first_at.false-raw)))
+loop-i-preserved c = (search rules, below_more _ _ c.loop-i.invariant.1 (c.first_at.ensures.to c.if-not-first_at.false))
 
 pub returns : goal.returns
 returns c =

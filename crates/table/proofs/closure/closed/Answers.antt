@@ -18,10 +18,10 @@ loop-q-init c = (search rules, λ k h. absurd (not-suc-le-zero h))
 
 pub returns-then-not-met : goal.returns-then-not-met
 returns-then-not-met c =
-    says_no (λ f. refused c.met.ensures (not-true _ c.if-not-met.true-raw) (all_met c.args.t.now c.requires.layout.0 c.args.s c.requires.layout.2 f c.loop-q.q (omega arith)))
+    says_no (λ f. refused c.met.ensures c.if-not-met.true (all_met c.args.t.now c.requires.layout.0 c.args.s c.requires.layout.2 f c.loop-q.q (omega arith)))
 
 pub loop-q-preserved : goal.loop-q-preserved
-loop-q-preserved c = (search rules, below_more _ _ c.loop-q.invariant.1 (c.met.ensures.to (not-false _ c.if-not-met.false-raw)))
+loop-q-preserved c = (search rules, below_more _ _ c.loop-q.invariant.1 (c.met.ensures.to c.if-not-met.false))
 
 pub returns : goal.returns
 returns c =

@@ -7,7 +7,7 @@ use Rattle.terminals.specs.Members.{below_is}
 use Rattle.terminals.proofs.Terminals.below.Goals as goal
 
 pub returns-then-n-ge64 : goal.returns-then-n-ge64
-returns-then-n-ge64 c = let h : 64 ≤ c.before.args.n = c.if-n-ge64.true in record { to = λ e. lt_of_lt_of_le (omega arith) (pow_mono {i = 64} (omega arith)); from = λ h. refl }
+returns-then-n-ge64 c = let h : 64 ≤ c.args.n = c.if-n-ge64.true in record { to = λ e. lt_of_lt_of_le (omega arith) (pow_mono {i = 64} (omega arith)); from = λ h. refl }
 
 pub returns : goal.returns
 returns c = says_as (says_eq _ _) (below_is _ _).1 (below_is _ _).0
