@@ -8,7 +8,7 @@ use Rattle.definitions.specs.States.{Accepted, Judged, StateConditions}
 use Rattle.definitions.specs.Answers.{Told, refusal, if, given, refuse, roomed, tabled}
 use Rattle.theory.specs.Check.Judge.{judged}
 use Rattle.theory.specs.Edits.EditsD.{text_in}
-use Rattle.theory.specs.Answers.{read_text, afresh_in, afresh, if_yes, if_no, enough, taken_on}
+use Rattle.theory.specs.Answers.{read_text, afresh_in, afresh, enough, taken_on}
 use Rattle.theory.specs.Demands.Calls.{Checks, takes, two, three, four, Enough, Afreshed, afresh_answers}
 
 -- 1

@@ -1,11 +1,11 @@
 -- The three stages of an update: what is lent is judged up to the old tree, the reading list of the edits is made, and the list is read. What
 -- each leaves is one number beside the room (crate edits, Made); together they tell what `Answers.update` has.
-use Rattle.std.specs.Prelude.{◌≡◌, refl, List, ℕ, ◌+◌, ◌-◌, ◌≤◌, ◌<◌, length, drop}
-use Rattle.std.proofs.Common.{sym, ap, subst, ◌∙◌, arith}
+use Rattle.std.specs.Prelude.{◌≡◌, List, ℕ, ◌+◌, ◌-◌, ◌≤◌, ◌<◌, length, drop}
+use Rattle.std.proofs.Common.{sym, ap, ◌∙◌, arith}
 use Rattle.definitions.specs.States.{Accepted}
-use Rattle.definitions.specs.Tree.{yield, NRow, erase, InOrder}
+use Rattle.definitions.specs.Tree.{NRow, InOrder}
 use Rattle.definitions.specs.Edits.{Edit}
-use Rattle.definitions.specs.Answers.{Told, refusal, cleared, refuse, finished}
+use Rattle.definitions.specs.Answers.{Told, refusal, refuse, finished}
 use Rattle.theory.specs.Answers.{update}
 use Rattle.theory.specs.Demands.Calls.{Checks, Enough}
 use Rattle.edits.specs.Made.{Tokens, Made, Lists, refused, six, made}

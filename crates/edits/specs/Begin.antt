@@ -1,6 +1,6 @@
 -- Before the pass back: the counts of tokens and the marks are written, and the codes put in at the very end are on the list. After it:
 -- what the working room holds.
-use Rattle.std.specs.Prelude.{◌≡◌, refl, List, ℕ, suc, ◌+◌, ◌-◌, ◌≤◌, ◌<◌, length, get_or, drop}
+use Rattle.std.specs.Prelude.{◌≡◌, refl, List, ℕ, suc, ◌+◌, ◌≤◌, ◌<◌, length, get_or, drop}
 use Rattle.std.proofs.Common.{sym, ap, ◌∙◌, arith, length-drop, get_or-drop, ext_get_or}
 use Rattle.std.proofs.Math.Seq.{slice}
 use Rattle.definitions.specs.Tree.{∅, ◌⧺◌, row, erase}

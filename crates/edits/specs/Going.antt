@@ -1,6 +1,6 @@
 -- The reading list made in one pass back over the old records. What holds at record pos: the list has what the marks give of the pieces
 -- behind it, and the first pos records are a row of pieces that is still to be passed.
-use Rattle.std.specs.Prelude.{◌≡◌, List, [], ◌∷◌, ℕ, suc, ◌+◌, ◌-◌, ◌≤◌, ◌<◌, length, get_or}
+use Rattle.std.specs.Prelude.{◌≡◌, List, [], ◌∷◌, ℕ, suc, ◌+◌, ◌≤◌, ◌<◌, length, get_or}
 use Rattle.std.proofs.Common.{sym, ap, ◌∙◌, arith, get_or-take, get_or-drop}
 use Rattle.definitions.specs.Sheet.{T}
 use Rattle.definitions.specs.Tree.{Tok, Row, ∅, tok, nod, ◌⧺◌, row, size, yield, toks, NRow, ε, ntok, nnod, erase, Kinds, InOrder}

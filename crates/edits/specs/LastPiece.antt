@@ -1,5 +1,5 @@
 -- The last piece of a row, by its marks: what the reading list has of it, behind what it has of the pieces before.
-use Rattle.std.specs.Prelude.{◌≡◌, refl, Bool, true, false, List, [], ◌∷◌, ◌++◌, ℕ, ◌+◌, ◌<◌, length}
+use Rattle.std.specs.Prelude.{◌≡◌, refl, Bool, true, false, List, [], ◌∷◌, ◌++◌, ℕ, ◌<◌, length}
 use Rattle.std.proofs.Common.{sym, ap, ◌∙◌, append-nil, arith}
 use Rattle.definitions.specs.Tree.{Tok, Row, ∅, tok, nod, ◌⧺◌, row, yield, toks}
 use Rattle.definitions.specs.Reading.{Tree, leaf, node, cons}

@@ -17,7 +17,6 @@ use Rattle.theory.specs.Edits.FromMarks.{skip, lead, clean, pieces}
 use Rattle.theory.specs.Machine.Rows.{toks-length, toks-append, row_assoc, size-append}
 use Rattle.theory.specs.Tree.Build.{join}
 use Rattle.tree.specs.Rows.{kind_at, size_at}
-use Rattle.tree.specs.Tokens.{tokens}
 use Rattle.list.specs.Pieces.{Forest, Piece, Ending, ending, Root, root, root_real, inside, erase-join, tokens_forest}
 use Rattle.list.specs.Pending.{list_at, tokens_at, Pending, piece, pending_stands, pending_toks, Counted}
 use Rattle.list.specs.Opening.{Elsewhere, unmoved, pushes, cons-row, some_size}

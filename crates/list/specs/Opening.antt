@@ -1,5 +1,5 @@
 -- A left-break: the children of a piece, those without tokens dropped, put on the list from the last back.
-use Rattle.std.specs.Prelude.{◌≡◌, refl, List, [], ◌∷◌, ◌++◌, ℕ, zero, suc, ◌+◌, ◌-◌, ◌*◌, ◌≤◌, ◌<◌}
+use Rattle.std.specs.Prelude.{◌≡◌, refl, List, [], ◌∷◌, ℕ, suc, ◌+◌, ◌-◌, ◌≤◌, ◌<◌}
 use Rattle.std.proofs.Common.{sym, ap, ◌∙◌, subst, arith, get_or-set_same, get_or-set_other, drop-set-lt}
 use lib.ListN.{length, get_or, set, take, drop, length-set}
 use Rattle.std.proofs.lemmas.List.{take-set-le}
@@ -10,7 +10,7 @@ use Rattle.definitions.specs.Moves.{pick, tokened}
 use Rattle.theory.specs.Machine.Rows.{toks-length, toks-append, row_assoc, size-append}
 use Rattle.tree.specs.Rows.{size_at}
 use Rattle.tree.specs.Tokens.{tokens}
-use Rattle.list.specs.Pieces.{Forest, Piece, Ending, ending, Root, root, Inside, inside, tokens_of}
+use Rattle.list.specs.Pieces.{Forest, Piece, Ending, ending, root, inside, tokens_of}
 use Rattle.list.specs.Pending.{list_at, tokens_at, Pending, piece, pending_stands, pending_toks, Counted}
 
 pub cons-row : (x : Tree) (f : Row) → cons x ∅ ⧺ f ≡ cons x f

@@ -1,16 +1,15 @@
 -- What the next entry's run says of the terminal that stands next.
-use Rattle.std.specs.Prelude.{◌≡◌, refl, ℕ, suc, ◌+◌, ◌-◌, ◌*◌, ◌≤◌, ◌<◌, length, get_or}
-use Rattle.std.proofs.Common.{sym, ap, ◌∙◌, subst, arith}
+use Rattle.std.specs.Prelude.{◌≡◌, refl, ℕ, ◌≤◌, ◌<◌, length, get_or}
+use Rattle.std.proofs.Common.{sym, ap, ◌∙◌, arith}
 use mathlib.Core.List.{List, [], ◌∷◌, ◌++◌}
 use Rattle.definitions.specs.Sheet.{T}
-use Rattle.definitions.specs.Tree.{Tok, mk, Row, ∅, tok, size, toks, yield, look, erase, words}
+use Rattle.definitions.specs.Tree.{Tok, Row, ∅, size, yield, look}
 use Rattle.definitions.specs.Reading.{Tree, leaf, node, cons}
 use Rattle.theory.specs.Machine.Rows.{toks-length, look-append}
 use Rattle.theory.specs.Tree.Build.{small}
 use Rattle.tree.specs.Rows.{length-words}
 use Rattle.tree.specs.Shaped.{Holds}
-use Rattle.list.specs.Pieces.{Piece}
-use Rattle.list.specs.Pending.{list_at, Pending, Next, old_piece, new_code, next}
+use Rattle.list.specs.Pending.{Next, old_piece, new_code}
 use Rattle.list.specs.Opening.{some_size}
 use Rattle.list.specs.Runs.{Fits, run_of, piece-fits, run-piece, code_fits, run-code, first_of, first_words}
 

@@ -1,8 +1,8 @@
 -- The reading list in the working room: words from 8,193 on, the next piece last. A word below 2,048 is the root of a piece of the old row;
 -- 2,048 and k is the code k of the inserted row. From 10,241 on stand the counts of tokens among the first records of the old row.
-use Rattle.std.specs.Prelude.{◌≡◌, refl, List, ℕ, zero, suc, ◌+◌, ◌≤◌, ◌<◌, length, get_or}
+use Rattle.std.specs.Prelude.{◌≡◌, refl, List, ℕ, suc, ◌+◌, ◌≤◌, ◌<◌, length, get_or}
 use Rattle.std.proofs.Common.{sym, ◌∙◌, subst, arith}
-use Rattle.definitions.specs.Tree.{mk, Row, ∅, tok, nod, size, toks}
+use Rattle.definitions.specs.Tree.{mk, Row, ∅, tok, toks}
 use Rattle.definitions.specs.Reading.{Tree, leaf, node, cons}
 use Rattle.tree.specs.Tokens.{tokens}
 use Rattle.list.specs.Pieces.{Piece}

@@ -1,5 +1,5 @@
 -- Pieces of the old row: what stands in the records from one to another, its last piece, and what stands inside a piece.
-use Rattle.std.specs.Prelude.{◌≡◌, refl, List, ℕ, zero, suc, ◌+◌, ◌≤◌, ◌<◌, get_or}
+use Rattle.std.specs.Prelude.{◌≡◌, refl, List, ℕ, suc, ◌+◌, ◌≤◌, ◌<◌, get_or}
 use Rattle.std.proofs.Common.{sym, ap, ◌∙◌, subst, arith}
 use Rattle.definitions.specs.Sheet.{T}
 use Rattle.definitions.specs.Table.{Table, table_of}
@@ -8,7 +8,7 @@ use Rattle.definitions.specs.Reading.{Tree, leaf, node, cons}
 use Rattle.theory.specs.Machine.Rows.{size-append}
 use Rattle.theory.specs.Machine.Update.{Valid, valid_der}
 use Rattle.theory.specs.Tree.Build.{join, small}
-use Rattle.tree.specs.Rows.{kind_at, number_at, size_at, Rec, Stands, holds_stands}
+use Rattle.tree.specs.Rows.{kind_at, number_at, size_at, Stands, holds_stands}
 use Rattle.tree.specs.Tokens.{tokens, tokens-piece}
 
 -- ---- rows side by side

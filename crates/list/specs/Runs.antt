@@ -1,13 +1,13 @@
 -- The run of an entry: a piece's words in the old row, or one code of the inserted row.
 use Rattle.std.specs.Prelude.{◌≡◌, refl, cond, List, [], ◌∷◌, ◌++◌, ℕ, zero, suc, ◌+◌, ◌-◌, ◌*◌, ◌≤◌, ◌<◌, ltb, length, get_or, take, drop}
 use Rattle.std.proofs.Common.{sym, ap, ◌∙◌, append_assoc, append-nil, arith, length-drop, drop-cons, drop-drop, lt-ltb, le-ltb}
-use Rattle.definitions.specs.Tree.{∅, size, yield, look, NRow, ε, ntok, nnod, erase, words}
-use Rattle.definitions.specs.Reading.{Tree, cons}
+use Rattle.definitions.specs.Tree.{size, yield, look, NRow, ε, ntok, nnod, erase, words}
+use Rattle.definitions.specs.Reading.{Tree}
 use Rattle.theory.specs.Machine.Rows.{look-append}
 use Rattle.theory.specs.Tree.Build.{Small}
 use Rattle.tree.specs.Rows.{size_at, cells, stands_words}
 use Rattle.tree.specs.Shaped.{Holds}
-use Rattle.list.specs.Pieces.{Piece, Root, root}
+use Rattle.list.specs.Pieces.{Piece, root}
 
 -- the entry's run lies within its row
 pub record Fits (old put : List ℕ) (e : ℕ) : Type 0 where

@@ -1,12 +1,12 @@
 -- The tokens of the list, entry by entry.
-use Rattle.std.specs.Prelude.{◌≡◌, refl, List, ℕ, zero, suc, ◌+◌, ◌-◌, ◌≤◌, ◌<◌, length, get_or}
-use Rattle.std.proofs.Common.{sym, ap, ◌∙◌, subst, arith}
+use Rattle.std.specs.Prelude.{◌≡◌, List, ℕ, suc, ◌+◌, ◌-◌, ◌≤◌, ◌<◌, get_or}
+use Rattle.std.proofs.Common.{ap, ◌∙◌, subst, arith}
 use Rattle.definitions.specs.Sheet.{T}
 use Rattle.definitions.specs.Tree.{Row, ∅, toks}
-use Rattle.definitions.specs.Reading.{Tree, leaf, node, cons}
+use Rattle.definitions.specs.Reading.{cons}
 use Rattle.tree.specs.Rows.{size_at}
 use Rattle.tree.specs.Tokens.{tokens}
-use Rattle.list.specs.Pieces.{Piece, root, tokens_of}
+use Rattle.list.specs.Pieces.{root, tokens_of}
 use Rattle.list.specs.Pending.{list_at, tokens_at, Pending, Next, old_piece, new_code, next, nothing, Counted, toks_cons, pending_toks}
 
 -- the list of m words is f

@@ -1,10 +1,10 @@
 -- How the spot word of a token is found, by a search, one law for each way out; and the words of all records, written forward.
-use Rattle.std.specs.Prelude.{◌≡◌, refl, List, ℕ, ◌+◌, ◌-◌, ◌≤◌, ◌<◌, drop, set, length}
+use Rattle.std.specs.Prelude.{◌≡◌, refl, List, ℕ, ◌+◌, ◌≤◌, ◌<◌, drop, set, length}
 use Rattle.std.proofs.Common.{◌∙◌, arith, length-set, get_or-set_same, get_or-set_other, drop-set-lt}
 use Rattle.std.proofs.Math.Decide.{dec_lt}
 use Rattle.std.proofs.lemmas.List.{take-set-le}
 use Rattle.machine.specs.Room.{states_at, states_end}
-use Rattle.numbers.specs.Records.{front, kind_of, number_of, size_of, spot_of, In, Shape, OldRow, Same, Met, At, Has, Bare, Told, lost, found, Spots, in_self}
+use Rattle.numbers.specs.Records.{front, kind_of, number_of, spot_of, In, Shape, OldRow, Same, Has, Told, lost, found, Spots, in_self}
 
 -- the first old record from lo up to hi that is record j, or hi
 pub record Finds (old R : List ℕ) (j lo hi k : ℕ) : Type 0 where

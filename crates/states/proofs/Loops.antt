@@ -9,7 +9,7 @@ use borrow.Author.Tests.{ltb-true, ltb-false}
 use lib.Dec.{ltb}
 use lib.ListN.{length, get_or, set}
 use lib.Seq.{get_or-set_same, get_or-set_other}
-use Rattle.definitions.specs.Sheet.{S, state_at, count, Layout}
+use Rattle.definitions.specs.Sheet.{state_at, count}
 use Rattle.definitions.specs.States.{HasItem}
 use Rattle.states.specs.Places.{Lies, IsItem, key, key_rise, short}
 

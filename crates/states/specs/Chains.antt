@@ -1,11 +1,11 @@
 -- Condition 7 at a state, from the set of the nonterminals after the dots of the items to which a chain leads: such a set holds
 -- nothing else, and another round over the items adds nothing to it.
-use Rattle.std.specs.Prelude.{◌≡◌, refl, Bool, true, false, List, ◌⊎◌, ◌↔◌, ℕ, zero, suc, ◌+◌, ◌≤◌, ◌<◌, get_or}
+use Rattle.std.specs.Prelude.{◌≡◌, refl, Bool, List, ◌⊎◌, ◌↔◌, ℕ, zero, suc, ◌+◌, ◌≤◌, ◌<◌, get_or}
 use Rattle.std.proofs.Common.{sym, subst, inl, inr, not-suc-le-zero, arith, below_more}
 use Rattle.std.proofs.Math.Path.{subst⁻¹}
-use Rattle.std.specs.Int.Bits.{bit_or, or_add_and}
+use Rattle.std.specs.Int.Bits.{or_add_and}
 use Rattle.std.proofs.lemmas.Nat.{and_le_r}
-use Rattle.definitions.specs.Sheet.{S, left, len, symbol, prod, dot, count, Layout}
+use Rattle.definitions.specs.Sheet.{S, left, len, symbol, prod, dot, count}
 use Rattle.definitions.specs.States.{Holds, HasItem, Led, begin, next, Condition7}
 use Rattle.theory.specs.Check.Says.{Says, says_as}
 use Rattle.theory.specs.Check.ItemLaws.{with_item}

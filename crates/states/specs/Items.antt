@@ -4,7 +4,7 @@ use Rattle.std.specs.Prelude.{◌≡◌, refl, Bool, false, true, cond, ◌&&◌
 use Rattle.std.proofs.Common.{sym, subst, ◌∙◌, inl, inr, lt-ltb, le-ltb, le-leb, arith}
 use Rattle.std.proofs.Math.Path.{subst⁻¹}
 use Rattle.std.proofs.lemmas.Bool.{lt-leb}
-use Rattle.definitions.specs.Sheet.{T, N, P, S, len, symbol, action, goto, count, prod, dot, ahead, IsSymbol, IsAction, IsGoto, Item, Layout}
+use Rattle.definitions.specs.Sheet.{T, N, S, len, symbol, action, goto, count, prod, dot, ahead, IsSymbol, IsAction, IsGoto, Item, Layout}
 use Rattle.definitions.specs.States.{Holds, HasItem, In, target, Goes, Condition3, Reduces, Condition4}
 use Rattle.theory.specs.Check.Says.{Says, says_yes, says_no, says_as, says_eq}
 use Rattle.theory.specs.Check.ItemLaws.{with_in}

@@ -1,12 +1,10 @@
 -- Where a state of a sheet well laid out lies, and the order of its items: they rise by one number, 16 · production + dot, so that
 -- (p,d) stands at one item at most.
-use Rattle.std.specs.Prelude.{◌≡◌, refl, Bool, true, false, List, ◌⊎◌, ℕ, zero, suc, ◌+◌, ◌-◌, ◌*◌, ◌≤◌, ◌<◌, ltb, eqb, length, get_or}
-use Rattle.std.proofs.Common.{◌∙◌, inl, inr, arith, not-suc-le-zero, add-one, ltb-true, ltb-false, eqb-true}
-use Rattle.std.proofs.lemmas.Bool.{eqb-false}
-use Rattle.definitions.specs.Sheet.{word, P, S, len, state_at, count, item_at, prod, dot, ahead, Rises, Layout}
-use Rattle.definitions.specs.States.{HasItem}
+use Rattle.std.specs.Prelude.{◌≡◌, refl, Bool, true, false, List, ℕ, zero, suc, ◌+◌, ◌-◌, ◌*◌, ◌≤◌, ◌<◌, ltb, length, get_or}
+use Rattle.std.proofs.Common.{◌∙◌, inl, inr, arith, ltb-true, ltb-false}
+use Rattle.definitions.specs.Sheet.{word, P, S, state_at, count, item_at, prod, dot, Rises, Layout}
 use Rattle.sheet.specs.Places.{count_at}
-use Rattle.sheet.specs.Within.{item_within, length_most}
+use Rattle.sheet.specs.Within.{item_within}
 
 -- state s of the sheet t, well laid out, stands at place at and has n items
 pub record Lies (t : List ℕ) (s at n : ℕ) : Type 0 where

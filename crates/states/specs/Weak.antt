@@ -1,14 +1,14 @@
 -- Condition 5 at a state, from three sets: the terminals and the nonterminals after its dots, and what its complete items look
 -- ahead to. Beside conditions 1 and 4 this weaker test says all that condition 5 does.
-use Rattle.std.specs.Prelude.{◌≡◌, refl, Bool, List, ◌⊎◌, ◌↔◌, ℕ, zero, suc, ◌+◌, ◌-◌, ◌^◌, ◌≤◌, ◌<◌}
+use Rattle.std.specs.Prelude.{◌≡◌, refl, Bool, List, ◌⊎◌, ℕ, zero, suc, ◌+◌, ◌-◌, ◌^◌, ◌≤◌, ◌<◌}
 use Rattle.std.proofs.Common.{sym, subst, ◌∙◌, inl, inr, arith, lt-ltb, le-ltb, le-leb}
 use Rattle.std.proofs.Math.Path.{subst⁻¹}
 use Rattle.std.proofs.lemmas.Bool.{lt-leb}
 use Rattle.definitions.specs.Sheet.{T, N, S, len, action, goto, prod, dot, ahead, count, symbol, IsAction, Layout}
-use Rattle.definitions.specs.States.{Holds, HasItem, In, Symbol, target, Goes, Reduces, Condition1, Condition5}
+use Rattle.definitions.specs.States.{Holds, HasItem, In, Symbol, target, Goes, Reduces, Condition5}
 use Rattle.theory.specs.Check.Says.{Says, says_as}
 use Rattle.terminals.specs.Members.{one_is}
-use Rattle.states.specs.Items.{After, shift_of, Condition4At}
+use Rattle.states.specs.Items.{shift_of, Condition4At}
 use Rattle.states.specs.Gathering.{Among, AfterTerminal, AfterNonterminal, Done}
 
 -- what is tested of the action on a, and of the goto on n

@@ -2,7 +2,7 @@
 use Rattle.std.specs.Prelude.{◌≡◌, List, ℕ, ◌<◌, get_or}
 use Rattle.std.proofs.Common.{sym, subst, ◌∙◌}
 use Rattle.std.proofs.Math.Path.{subst⁻¹}
-use Rattle.definitions.specs.Sheet.{prod, dot, ahead, count}
+use Rattle.definitions.specs.Sheet.{ahead, count}
 use Rattle.definitions.specs.States.{Holds, In}
 use Rattle.states.specs.Places.{IsItem}
 use Rattle.states.specs.Gathering.{Exactly, exactly_none, SetsTo}

@@ -1,18 +1,17 @@
 -- A run searched from its end: the last token, and the breaks behind it.
 use Rattle.std.specs.Prelude.{◌≡◌, refl, List, [], ◌∷◌, ◌++◌, ℕ, zero, suc, ◌+◌, ◌-◌, ◌*◌, ◌≤◌, ◌<◌, length, get_or}
-use Rattle.std.proofs.Common.{sym, ap, ◌∙◌, subst, append_assoc, append-nil, arith, length-append}
+use Rattle.std.proofs.Common.{sym, ap, ◌∙◌, append_assoc, append-nil, arith}
 use Rattle.std.proofs.Math.Option.{some}
 use Rattle.std.proofs.Math.Decide.{dec_lt}
 use Rattle.std.proofs.Math.ListN.{get_elem?}
 use Rattle.definitions.specs.Table.{Table}
 use Rattle.definitions.specs.Tree.{Tok, Row, ∅, tok, nod, ◌⧺◌, size, toks}
-use Rattle.definitions.specs.Reading.{Tree, leaf, node, cons}
+use Rattle.definitions.specs.Reading.{leaf, node}
 use Rattle.definitions.specs.Moves.{standing, breaks}
 use Rattle.theory.specs.Machine.Rows.{size-append, toks-append}
 use Rattle.theory.specs.Records.Flat.{Word, wtok, wnod, flat, length-flat, trim, grow}
 use Rattle.theory.specs.Records.Stand.{at_right}
 use Rattle.theory.specs.Records.Scan.{flat_append, Last, empty, ends, last}
-use Rattle.machine.specs.Room.{size_w}
 use Rattle.updating.specs.Records.{Coded, Reads}
 use Rattle.updating.specs.Cut.{standing-none, standing-some, standing-size, standing-toks, breaks_off, breaks_open, breaks_token}
 

@@ -1,10 +1,10 @@
 -- Records of a run copied onto the stack, the state after each the one that the state at its start leads to; and that a row copied so is
 -- the row put on the stack.
-use Rattle.std.specs.Prelude.{◌≡◌, cond, List, [], ◌∷◌, ◌++◌, ltb, length, take}
+use Rattle.std.specs.Prelude.{◌≡◌, List, [], ◌∷◌, ◌++◌, length, take}
 use Rattle.std.proofs.Math.Path.{refl, ap, subst}
 use Rattle.std.proofs.Common.{sym, ◌∙◌, append-nil, append_assoc, length-append, length-set, lt-ltb, le-ltb}
 use Rattle.std.proofs.Math.Option
-use Rattle.std.proofs.Math.Option.{Option, none, some}
+use Rattle.std.proofs.Math.Option.{Option, some}
 use Prim.Native.Nat.{ℕ, zero, suc, ◌+◌, ◌-◌, ◌*◌, ◌≤◌, ◌<◌}
 use native.Mathlib.Omega.{arith}
 use Rattle.std.proofs.Math.Decide.{dec_lt}
@@ -12,14 +12,14 @@ use Rattle.std.proofs.Math.Nat.{add-sub_cancel_left}
 use Rattle.std.proofs.Math.ListN.{get_or, get_elem?}
 use Rattle.std.proofs.Math.Seq.{take-length}
 use Rattle.definitions.specs.Table.{Sym, tm, nt, Act, shift_of, Table}
-use Rattle.definitions.specs.Tree.{Tok, kind, Row, ∅, tok, nod, size}
+use Rattle.definitions.specs.Tree.{kind, Row, ∅, tok, nod, size}
 use Rattle.definitions.specs.Reading.{leaf, node, Stack, push, top, held}
 use Rattle.definitions.specs.Moves.{to, spread, right_break, standing}
 use Rattle.theory.specs.Records.Flat.{Word, wtok, wnod, flat, length-flat, trim}
 use Rattle.theory.specs.Records.FlatStack.{flat_s, break_flat, standing-flat}
 use Rattle.theory.specs.Records.Stand.{at_left, at_right, Stand, agree_stand, agree_self, bound}
-use Rattle.machine.specs.Room.{kind_w, ident_w, size_w, enc, states_at, states_end, States, over, Holds, put}
-use Rattle.machine.specs.Laws.{enc-append, length-flat_s, top_state, states_stand, put_other, put_rest, put_state, put-records}
+use Rattle.machine.specs.Room.{kind_w, ident_w, size_w, enc, states_at, States, over, Holds, put}
+use Rattle.machine.specs.Laws.{enc-append, length-flat_s, top_state, states_stand, put_other, put_state, put-records}
 use Rattle.updating.specs.Records.{sym_k, num_k, Fine, Coded}
 use Rattle.updating.specs.Cut.{cut, break_cut, flat-cut}
 

@@ -1,13 +1,13 @@
 -- What a right-break leaves of a row: the records up to the last token, and the number of breaks by the records after it.
-use Rattle.std.specs.Prelude.{◌≡◌, refl, List, [], ◌∷◌, ◌++◌, ℕ, zero, suc, ◌+◌, ◌-◌, ◌*◌, ◌≤◌, ◌<◌, length}
-use Rattle.std.proofs.Common.{sym, ap, ◌∙◌, subst, append-nil, append_assoc, arith, length-append}
+use Rattle.std.specs.Prelude.{◌≡◌, refl, List, [], ◌∷◌, ◌++◌, ℕ, suc, ◌+◌, ◌≤◌, ◌<◌, length}
+use Rattle.std.proofs.Common.{sym, ap, ◌∙◌, append-nil, arith, length-append}
 use Rattle.definitions.specs.Table.{tm, nt, Table}
 use Rattle.definitions.specs.Tree.{Tok, kind, Row, ∅, tok, nod, ◌⧺◌, size, toks, yield}
-use Rattle.definitions.specs.Reading.{Tree, leaf, node, cons, Stack, bot, push, top}
+use Rattle.definitions.specs.Reading.{leaf, node, Stack, push, top}
 use Rattle.definitions.specs.Moves.{to, pick, spread, right_break, standing, breaks}
-use Rattle.theory.specs.Machine.Rows.{toks-length, yield-append, size-append, append-∅}
+use Rattle.theory.specs.Machine.Rows.{toks-length, yield-append}
 use Rattle.theory.specs.Records.Flat.{Word, wtok, wnod, flat, length-flat, trim, toks_of, toks_of_flat, trim-left, trim_right}
-use Rattle.theory.specs.Records.FlatStack.{flat_s, break_flat, standing-flat}
+use Rattle.theory.specs.Records.FlatStack.{standing-flat}
 use Rattle.theory.specs.Records.Scan.{flat_append}
 
 -- the row that it leaves

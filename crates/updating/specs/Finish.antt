@@ -1,21 +1,19 @@
 -- What an update tells by the end of its reading: the accepted stack is one tree, whose records the room holds; its numbers, or the refusal.
-use Rattle.std.specs.Prelude.{◌≡◌, refl, true, false, List, [], ◌∷◌, ◌++◌, ℕ, suc, ◌+◌, ◌*◌, ◌≤◌, ◌<◌, length, get_or, drop, replicate}
+use Rattle.std.specs.Prelude.{◌≡◌, refl, true, false, List, [], ◌++◌, ℕ, ◌≤◌, length, get_or, drop, replicate}
 use Rattle.std.proofs.Common.{sym, ap, ◌∙◌, subst, arith}
 use Rattle.definitions.specs.Sheet.{T}
 use Rattle.definitions.specs.States.{Accepted}
 use Rattle.definitions.specs.Table.{table_of}
-use Rattle.definitions.specs.Tree.{Row, ∅, nod, size, toks, yield, NRow, erase, InOrder}
+use Rattle.definitions.specs.Tree.{Row, ∅, nod, yield, NRow, erase, InOrder}
 use Rattle.definitions.specs.Reading.{node, Stack, bot, push, held, End, taken, refused}
 use Rattle.definitions.specs.Reading as Reading
 use Rattle.definitions.specs.Moves.{Done, reading}
 use Rattle.definitions.specs.Edits.{Edit, EditsInOrder, new_text}
-use Rattle.definitions.specs.Answers.{refusal, accepted, Told, cleared, numbered, ending, finished}
+use Rattle.definitions.specs.Answers.{refusal, cleared, numbered, ending, finished}
 use Rattle.theory.specs.Machine.Rows.{toks-length}
 use Rattle.theory.specs.Numbers.Number.{judge, renumber}
 use Rattle.theory.specs.Edits.FromMarks.{reading_list}
 use Rattle.theory.specs.Edits.Edited.{yield-list}
-use Rattle.theory.specs.Edits.EditedText.{Known}
-use Rattle.theory.specs.Records.Flat.{flat}
 use Rattle.theory.specs.Records.FlatStack.{flat_s}
 use Rattle.theory.specs.Demands.Afresh.{Reads, accepts}
 use Rattle.theory.specs.Demands.Update.{known, list_reads}
@@ -23,7 +21,7 @@ use Rattle.answers.specs.Values.{counts_of, value_of}
 use Rattle.answers.specs.declared.Counts as Code
 use Rattle.answers.specs.declared.Answer.{Answer}
 use Rattle.answers.specs.declared.Answer.TheVariants.{Accepted as AcceptedWith, NoNumber}
-use Rattle.machine.specs.Room.{Holds, enc}
+use Rattle.machine.specs.Room.{enc}
 use Rattle.reading.specs.Fresh.{told}
 use Rattle.tree.specs.Shaped as Rows
 use Rattle.list.specs.Pending.{Pending, Counted}

@@ -1,16 +1,16 @@
 -- What is next, by the length of the next entry's run: one word is a code, three are a token of the old row, more are a piece. A token is
 -- the terminal that stands next.
-use Rattle.std.specs.Prelude.{◌≡◌, refl, List, [], ◌∷◌, ◌++◌, ℕ, zero, suc, ◌+◌, ◌-◌, ◌*◌, ◌≤◌, ◌<◌, length, get_or}
-use Rattle.std.proofs.Common.{sym, ap, ◌∙◌, subst, arith}
+use Rattle.std.specs.Prelude.{◌≡◌, refl, List, ℕ, suc, ◌+◌, ◌-◌, ◌*◌, ◌≤◌, ◌<◌, length, get_or}
+use Rattle.std.proofs.Common.{ap, ◌∙◌, subst, arith}
 use Rattle.definitions.specs.Sheet.{T}
-use Rattle.definitions.specs.Tree.{Tok, mk, Row, ∅, tok, nod, size, toks, yield, look, NRow, ε, ntok, nnod, erase, words}
-use Rattle.definitions.specs.Reading.{Tree, leaf, node, cons, Stack}
+use Rattle.definitions.specs.Tree.{mk, Row, ∅, tok, nod, size, toks, yield, look, NRow, ε, ntok, nnod, erase, words}
+use Rattle.definitions.specs.Reading.{leaf, node, Stack}
 use Rattle.machine.specs.Room.{Holds}
 use Rattle.machine.specs.Steps.{Stands, token, end}
 use Rattle.tree.specs.Shaped as Rows
 use Rattle.tree.specs.Rows.{length-words}
 use Rattle.edits.specs.Codes.{from_codes}
-use Rattle.list.specs.Pieces.{Piece, root_real}
+use Rattle.list.specs.Pieces.{root_real}
 use Rattle.list.specs.Pending.{list_at, Pending, Next, old_piece, new_code, next, nothing}
 use Rattle.list.specs.Runs.{Fits, run_of, piece-fits, run-piece, code_fits, run-code}
 use Rattle.updating.specs.Turns.{Listed, Facing}

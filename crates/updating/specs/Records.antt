@@ -1,12 +1,12 @@
 -- The records of a run: what its words say of each.
-use Rattle.std.specs.Prelude.{◌≡◌, refl, cond, List, [], ◌∷◌, ◌++◌, ℕ, zero, suc, ◌+◌, ◌-◌, ◌*◌, ◌≤◌, ◌<◌, ltb, length, get_or}
+use Rattle.std.specs.Prelude.{◌≡◌, refl, cond, List, [], ◌∷◌, ℕ, zero, suc, ◌+◌, ◌-◌, ◌*◌, ◌≤◌, ◌<◌, ltb, length, get_or}
 use Rattle.std.proofs.Common.{sym, ap, ◌∙◌, subst, arith, lt-ltb, le-ltb}
 use Rattle.std.proofs.Math.Option.{some}
 use Rattle.std.proofs.Math.Decide.{dec_lt}
 use Rattle.std.proofs.Math.ListN.{get_elem?}
 use Rattle.definitions.specs.Sheet.{T, P}
 use Rattle.definitions.specs.Table.{Sym, tm, nt, Table, table_of}
-use Rattle.definitions.specs.Tree.{Tok, mk, kind, ident, Row, ∅, size, NRow, ε, ntok, nnod, erase, words, Prod, Kinds}
+use Rattle.definitions.specs.Tree.{mk, kind, Row, ∅, size, NRow, ε, ntok, nnod, erase, words, Kinds}
 use Rattle.definitions.specs.Reading.{Tree, cons}
 use Rattle.theory.specs.Table.Sides.{prods_is}
 use Rattle.theory.specs.Machine.Update.{Valid, valid_der}

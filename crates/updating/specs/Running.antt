@@ -1,15 +1,13 @@
 -- The loop of turns: what is left of the reading comes to what the whole comes to.
-use Rattle.std.specs.Prelude.{◌≡◌, refl, cond, List, ℕ, zero, suc, ◌+◌, ◌-◌, ◌*◌, ◌≤◌, ◌<◌, ltb, length, get_or}
-use Rattle.std.proofs.Common.{sym, ap, ◌∙◌, subst, arith, lt-ltb, le-ltb}
-use Rattle.definitions.specs.Table.{Table, table_of}
+use Rattle.std.specs.Prelude.{◌≡◌, refl, cond, List, ℕ, zero, suc, ◌+◌, ◌-◌, ◌*◌, ◌≤◌, ◌<◌, ltb, get_or}
+use Rattle.std.proofs.Common.{sym, ap, ◌∙◌, arith, lt-ltb, le-ltb}
+use Rattle.definitions.specs.Table.{table_of}
 use Rattle.definitions.specs.Tree.{Row, ∅, size, toks, yield, look}
-use Rattle.definitions.specs.Reading.{Tree, leaf, node, cons, Stack, bot, shifted, End, taken, refused, Counts, zeros, Move, reduction, token_shift, whole_shift, left_break, on, stop}
-use Rattle.definitions.specs.Reading as Reading
-use Rattle.definitions.specs.Moves.{breaks, cost, tally, turn, Done, read, reading}
+use Rattle.definitions.specs.Reading.{Tree, leaf, node, cons, Stack, bot, shifted, End, taken, refused, Counts, zeros, Move, reduction, token_shift, whole_shift, left_break, stop}
+use Rattle.definitions.specs.Moves.{cost, tally, turn, Done, read, reading}
 use Rattle.theory.specs.Machine.Rows.{toks-length}
 use Rattle.theory.specs.Machine.Room.{moved}
 use Rattle.answers.specs.Values.{counts_of}
-use Rattle.answers.specs.declared.Counts as Code
 use Rattle.machine.specs.Room.{Holds}
 use Rattle.reading.specs.Turns.{read-on, read_stop}
 use Rattle.tree.specs.Rows.{size_at}

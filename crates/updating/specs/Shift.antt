@@ -1,8 +1,7 @@
 -- A whole shift: the piece over the stack, and what it comes to.
-use Rattle.std.specs.Prelude.{◌≡◌, refl, ℕ, zero, suc, ◌+◌, ◌≤◌, ◌<◌, length, take}
-use Rattle.std.proofs.Common.{sym, ap, ◌∙◌, subst, arith, length-append, take_at}
+use Rattle.std.specs.Prelude.{◌≡◌, refl, ℕ, suc, ◌+◌, ◌≤◌, ◌<◌, length, take}
+use Rattle.std.proofs.Common.{sym, ap, ◌∙◌, arith, take_at}
 use mathlib.Core.List.{List, [], ◌∷◌, ◌++◌}
-use Rattle.std.proofs.Math.Option.{some}
 use Rattle.std.proofs.Math.ListN.{get_elem?}
 use Rattle.std.proofs.Math.Seq.{take-length}
 use Rattle.definitions.specs.Table.{Table}
@@ -15,7 +14,7 @@ use Rattle.theory.specs.Records.FlatStack.{standing-flat}
 use Rattle.theory.specs.Records.Stand.{at_in}
 use Rattle.machine.specs.Room.{Holds}
 use Rattle.updating.specs.Records.{Reads}
-use Rattle.updating.specs.Copy.{Copied, Rooted, rooted, copied_all}
+use Rattle.updating.specs.Copy.{Copied, copied_all}
 use Rattle.updating.specs.declared.shifting.Whole.{Whole}
 use Rattle.updating.specs.declared.shifting.Whole.TheVariants.{Held, Full}
 

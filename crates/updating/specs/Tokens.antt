@@ -1,7 +1,7 @@
 -- The turn of a token or the end mark over a reading list, where the action on it is no reduction: what the code's two functions say of it,
 -- one law for each way out.
 use Rattle.std.specs.Prelude.{◌≡◌, List, ℕ, ◌+◌, ◌-◌, ◌≤◌, ◌<◌, drop}
-use Rattle.std.proofs.Common.{sym, ◌∙◌, arith}
+use Rattle.std.proofs.Common.{arith}
 use Rattle.definitions.specs.Table.{Act, err, acc, sh, red, table_of}
 use Rattle.definitions.specs.Tree.{mk, Row}
 use Rattle.definitions.specs.Reading.{leaf, Stack, push, top}

@@ -1,21 +1,19 @@
 -- What a turn of the code says of the definitions' turn: the list and the stack before it and after it.
-use Rattle.std.specs.Prelude.{◌≡◌, refl, List, [], ◌∷◌, ◌++◌, ℕ, zero, suc, ◌+◌, ◌-◌, ◌*◌, ◌≤◌, ◌<◌, length, get_or, take, drop}
+use Rattle.std.specs.Prelude.{◌≡◌, refl, List, ℕ, zero, suc, ◌+◌, ◌-◌, ◌*◌, ◌≤◌, ◌<◌, length, get_or, take, drop}
 use Rattle.std.proofs.Common.{sym, ap, ◌∙◌, subst, arith, get_or-drop, get_or-take, take-take, drop-drop}
 use Rattle.std.proofs.Math.Option.{Option, some}
-use Rattle.std.proofs.Math.Option as Option
 use Rattle.std.proofs.Math.Decide.{dec_le}
 use Rattle.definitions.specs.Sheet.{T}
 use Rattle.definitions.specs.Table.{Act, err, acc, sh, red, Table, table_of}
-use Rattle.definitions.specs.Tree.{Tok, mk, Row, ∅, tok, nod, ◌⧺◌, size, toks, yield, look, words}
+use Rattle.definitions.specs.Tree.{Tok, Row, ∅, tok, nod, ◌⧺◌, toks, yield, look, words}
 use Rattle.definitions.specs.Reading.{Tree, leaf, node, cons, Stack, push, top, held, shifted, taken, refused, Move, reduction, token_shift, whole_shift, left_break, on, stop}
 use Rattle.definitions.specs.Reading as Reading
 use Rattle.definitions.specs.Moves.{standing, breaks, tokened, fits, right_break, turn}
 use Rattle.definitions.specs.Moves as Moves
 use Rattle.definitions.specs.Edits.{Codes}
-use Rattle.theory.specs.Machine.Rows.{toks-length, yield-append}
+use Rattle.theory.specs.Machine.Rows.{toks-length}
 use Rattle.theory.specs.Machine.Update.{yield-left}
-use Rattle.theory.specs.Records.Flat.{flat}
-use Rattle.machine.specs.Room.{states_at, states_end, States, Holds}
+use Rattle.machine.specs.Room.{states_end, Holds}
 use Rattle.machine.specs.Laws.{states_stand}
 use Rattle.machine.specs.Back.{Landed}
 use Rattle.tree.specs.Shaped as Rows
@@ -24,7 +22,7 @@ use Rattle.list.specs.Pieces.{Piece}
 use Rattle.list.specs.Pending.{list_at, tokens_at, Pending, none, piece, code, pending_stands, Counted}
 use Rattle.list.specs.Opening.{Opens, Elsewhere}
 use Rattle.list.specs.Weigh.{Counting}
-use Rattle.updating.specs.Records.{Reads, piece_reads}
+use Rattle.updating.specs.Records.{piece_reads}
 use Rattle.updating.specs.Shift.{Ripe, Shifted}
 use Rattle.updating.specs.declared.Turn.{Turn}
 use Rattle.updating.specs.declared.Turn.TheVariants as Code

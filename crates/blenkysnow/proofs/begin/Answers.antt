@@ -1,8 +1,7 @@
 -- `blenkysnow::begin` meets its contract: by the lengths, by the table check's answer, then by the old tree. Assumes nothing.
-use mathlib.Core.Path.{◌≡◌, refl, ap, subst}
+use mathlib.Core.Path.{refl, ap, subst}
 use native.Mathlib.Omega.{arith}
 use lib.ListN.{length}
-use borrow.Author.Tests.{not-true, not-false}
 use Rattle.theory.specs.Check.Says.{refused}
 use Rattle.theory.specs.Demands.Calls.{Checks}
 use Rattle.table.specs.Answer.{number}

@@ -1,10 +1,9 @@
 -- `blenkysnow::finish` meets its contract: a refusal by its number, or the update. Assumes nothing.
-use mathlib.Core.Path.{◌≡◌, refl, ap, ◌∙◌}
-use Prim.Native.Nat.{◌-◌, ◌≤◌, ◌<◌}
+use mathlib.Core.Path.{refl, ap, ◌∙◌}
+use Prim.Native.Nat.{◌≤◌, ◌<◌}
 use native.Mathlib.Omega.{arith}
 use lib.ListN.{length}
 use Rattle.definitions.specs.Answers as Answers
-use Rattle.answers.specs.Values.{value_of}
 use Rattle.answers.specs.declared.Answer.{Answer}
 use Rattle.reading.specs.Fresh.{told}
 use Rattle.blenkysnow.specs.Stages.{handed_no, handed_list}

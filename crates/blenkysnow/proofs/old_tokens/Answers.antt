@@ -1,11 +1,9 @@
 -- `blenkysnow::old_tokens` meets its contract: the old tree is judged, then its tokens are counted. Assumes nothing.
-use mathlib.Core.Path.{◌≡◌, refl, sym, ap, ◌∙◌}
+use mathlib.Core.Path.{refl, sym, ap, ◌∙◌}
 use Prim.Native.Nat.{◌≤◌}
 use native.Mathlib.Omega.{arith}
-use lib.ListN.{length}
-use borrow.Author.Tests.{not-true, not-false}
 use Rattle.definitions.specs.Sheet.{T}
-use Rattle.definitions.specs.Tree.{yield, NRow, erase, InOrder}
+use Rattle.definitions.specs.Tree.{NRow, InOrder}
 use Rattle.theory.specs.Check.Says.{refused}
 use Rattle.tree.specs.Tokens.{tokens}
 use Rattle.tree.specs.Shaped.{Holds, shape_holds, order_shape}
@@ -23,9 +21,9 @@ held c = let a = c.args in let T = tree_of_lem c in shape_holds a.t.now a.old.no
 
 pub returns-then-not-in_order : goal.returns-then-not-in_order
 returns-then-not-in_order c = record {
-      old_tokens = five (refused c.in_order.ensures.says c.if-not-in_order.true) refl;
-      room_unchanged = c.in_order.ensures.room_unchanged;
-    }
+  old_tokens = five (refused c.in_order.ensures.says c.if-not-in_order.true) refl;
+  room_unchanged = c.in_order.ensures.room_unchanged;
+}
 
 pub count_at-requires : goal.count_at-requires
 count_at-requires c = let h = held c in omega (arith, h.0.0, h.1)

@@ -1,8 +1,6 @@
 -- `blenkysnow::read_afresh` meets its contract: by the room that is lent, by the table check's answer, then by the reading. Assumes nothing.
 use mathlib.Core.Path.{ap, sym, subst, ◌∙◌}
-use Prim.Native.Nat.{◌<◌}
 use native.Mathlib.Omega.{arith}
-use borrow.Author.Tests.{not-true, not-false}
 use lib.ListN.{length}
 use Rattle.answers.specs.declared.Answer.{Answer}
 use Rattle.answers.specs.declared.Answer.TheVariants.{Layout, Grammar, States}
@@ -73,4 +71,3 @@ returns-in-Yes c =
     let q = tells a.table.now a.codes.now a.first a.tree.now a.room.now (c.read_taken.ensures
     ∙ sym (goes_on _ _ _ _ _ e.0 e.1 (taken (ap number c.in-Yes.is) c.check_table-found.ensures.checks))) in
     record { room_after = q.0; afreshed = q.1 }
-

@@ -1,6 +1,5 @@
 -- `blenkysnow::read_taken` meets its contract: by whether the text is in order. Assumes nothing.
 use mathlib.Core.Path.{ap, sym, ◌∙◌}
-use borrow.Author.Tests.{not-true, not-false}
 use Rattle.theory.specs.Answers.{if_yes, if_no}
 use Rattle.theory.specs.Edits.EditsD.{text_in}
 use Rattle.theory.specs.Check.Says.{refused}

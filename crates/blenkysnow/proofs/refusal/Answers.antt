@@ -2,7 +2,7 @@
 use mathlib.Core.Path.{◌≡◌, sym, ap}
 use Prim.Native.Nat.{ℕ}
 use native.Mathlib.Omega.{arith}
-use Rattle.definitions.specs.Answers.{Answer, refusal}
+use Rattle.definitions.specs.Answers.{refusal}
 use Rattle.blenkysnow.proofs.refusal.Goals as goal
 
 number : {k n : ℕ} → k ≡ n → refusal n 0 ≡ refusal k 0

@@ -1,6 +1,4 @@
 -- `blenkysnow::update` meets its contract: its three stages tell the call. Assumes nothing.
-use lib.ListN.{length}
-use Rattle.reading.specs.Fresh.{told}
 use Rattle.blenkysnow.specs.Update.{tells'}
 use Rattle.blenkysnow.specs.Stages.{may_list, may_end, told_all}
 use Rattle.blenkysnow.proofs.update.Goals as goal

@@ -1,5 +1,5 @@
 -- The walk over the structs is that over the words of the list.
-use Rattle.std.proofs.Common.{◌≡◌, ◌+◌, ◌≤◌, ◌<◌, length, arith}
+use Rattle.std.proofs.Common.{arith}
 use Rattle.edits.specs.Judged.{says_order}
 use Rattle.edit_lists.specs.Words.{words_of}
 use Rattle.edit_lists.specs.Passing.{walk_next, walk-over}

@@ -1,7 +1,7 @@
 -- The laws of the edits passed one by one, at the update that the caller has at hand.
-use Rattle.std.proofs.Common.{◌≡◌, ◌+◌, ◌*◌, ◌≤◌, ◌<◌, ◌∙◌, length, arith}
+use Rattle.std.proofs.Common.{◌∙◌, arith}
 use Rattle.edits.specs.Begin.{case-holds}
-use Rattle.edit_lists.specs.Passing.{Update, case, mark_asks, mark_next, list_asks, list_lists, list_leaves}
+use Rattle.edit_lists.specs.Passing.{case, mark_asks, mark_next, list_asks, list_lists, list_leaves}
 use Rattle.edit_lists.proofs.make_list.Goals as goal
 
 pub begin_marks-m-requires : goal.begin_marks-m-requires

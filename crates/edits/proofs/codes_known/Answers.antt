@@ -1,12 +1,11 @@
 -- `edits::codes_known` meets its contract: the loop tests one code after the other. Its invariant: the codes before i are
 -- known. Its measure: the codes left. Assumes nothing.
-use Prim.Native.Nat.{◌-◌, ◌≤◌}
 use native.Mathlib.Omega.{arith}
 use native.Mathlib.Numerals.{add-one}
 use lib.ListN.{get_or}
 use Rattle.definitions.specs.Sheet.{T}
 use Rattle.theory.specs.Check.Says.{below, says_yes, says_no, refused}
-use Rattle.edits.specs.Codes.{Known, Knowns}
+use Rattle.edits.specs.Codes.{Known}
 use Rattle.edits.proofs.codes_known.Goals as goal
 
 pub loop-i-init : goal.loop-i-init

@@ -1,12 +1,8 @@
 -- `edits::codes_known` meets its contract: the loop tests one code after the other. Its invariant: the codes before i are
 -- known. Its measure: the codes left. Assumes nothing.
 use Prim.Native.Nat.{◌-◌, ◌≤◌}
-use native.Mathlib.Omega.{arith}
-use native.Mathlib.Numerals.{add-one}
-use lib.ListN.{get_or}
 use Rattle.definitions.specs.Sheet.{T}
-use Rattle.theory.specs.Check.Says.{below, says_yes, says_no, refused}
-use Rattle.edits.specs.Codes.{Known, Knowns}
+use Rattle.edits.specs.Codes.{Knowns}
 use Rattle.edits.proofs.codes_known.Given as goal
 
 abbrev pub invariant-loop-i : goal.invariant-loop-i

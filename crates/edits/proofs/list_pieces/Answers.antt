@@ -20,13 +20,13 @@ sizes : (c : In-loop-pos) → Sized c.args.old.now c.loop-pos.pos
 sizes c = sized (going c) c.loop-pos-test.true
 
 -- the last piece, once its counts are read
-piece : (c : After-wide-b) →    (C : Case c.args.old.now) → Going C c.args.room.now c.args.n c.args.m
+piece : (c : After-wide-b) → (C : Case c.args.old.now) → Going C c.args.room.now c.args.n c.args.m
     → Last C c.loop-pos.room c.loop-pos.pos c.loop-pos.k (c.loop-pos.pos - c.size_at.result) c.wide-a.result c.wide-b.result
 piece c C G =
     let z = c.size_at.ensures.0 in
     last-piece (c.loop-pos.invariant.1 C G) c.loop-pos-test.true (c.loop-pos.pos - c.size_at.result) c.wide-a.result c.wide-b.result (ap (c.loop-pos.pos -◌) z) c.wide-a.ensures.0 c.wide-b.ensures.0
 
-own : (c : After-wide-b) →    Last c.requires.2.0 c.loop-pos.room c.loop-pos.pos c.loop-pos.k (c.loop-pos.pos - c.size_at.result) c.wide-a.result c.wide-b.result
+own : (c : After-wide-b) → Last c.requires.2.0 c.loop-pos.room c.loop-pos.pos c.loop-pos.k (c.loop-pos.pos - c.size_at.result) c.wide-a.result c.wide-b.result
 own c = let g = c.requires.2 in piece c g.0 g.1
 
 some : (c : Else-a-b) → c.wide-a.result < c.wide-b.result
@@ -34,12 +34,12 @@ some c =
     let g = c.requires.2 in
     let z = c.size_at.ensures.0 in
     let L : Last g.0 c.loop-pos.room c.loop-pos.pos c.loop-pos.k (c.loop-pos.pos - c.size_at.result) c.wide-a.result c.wide-b.result =
-        last-piece (c.loop-pos.invariant.1 g.0 g.1) c.loop-pos-test.true (c.loop-pos.pos - c.size_at.result) c.wide-a.result c.wide-b.result (ap (c.loop-pos.pos -◌) z) c.wide-a.ensures.0 c.wide-b.ensures.0 in
+    last-piece (c.loop-pos.invariant.1 g.0 g.1) c.loop-pos-test.true (c.loop-pos.pos - c.size_at.result) c.wide-a.result c.wide-b.result (ap (c.loop-pos.pos -◌) z) c.wide-a.ensures.0 c.wide-b.ensures.0 in
     let n = c.if-a-b.false in
     omega (arith, some-tokens L)
 
 -- the old row and the room are long enough
-long : (c : In-loop-pos) →    (c.loop-pos.pos ≤ 2048) × (2 + 3 * c.loop-pos.pos ≤ length c.args.old.now) × (16384 ≤ length c.loop-pos.room)
+long : (c : In-loop-pos) → (c.loop-pos.pos ≤ 2048) × (2 + 3 * c.loop-pos.pos ≤ length c.args.old.now) × (16384 ≤ length c.loop-pos.room)
 long c =
     let i = (sizes c).inside in
     let p = c.requires in

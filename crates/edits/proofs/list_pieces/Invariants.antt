@@ -1,14 +1,7 @@
 -- `edits::list_pieces` meets its contract. The loop's invariant is `Going`, of every case of which it held at first, and that only the list is
 -- written. The measure is the records left. Assumes nothing.
-use mathlib.Core.Path.{◌≡◌, ap}
-use Prim.Native.Nat.{◌+◌, ◌*◌, ◌-◌, ◌≤◌, ◌<◌}
-use native.Mathlib.Omega.{arith}
-use lib.ListN.{length}
-use borrow.Author.Rules.{rules}
-use Rattle.theory.specs.Check.Says.{refused}
-use Rattle.list.specs.Opening.{Elsewhere, unmoved, pushes}
-use Rattle.edits.specs.Going.{Case, Going, few_tokens, going_end}
-use Rattle.edits.specs.Stepping.{then, Sized, sized, Last, last-piece, some-tokens, step-none, push_clean, room-clean, step-clean, room_gone, step_gone, step-broken}
+use Rattle.list.specs.Opening.{Elsewhere}
+use Rattle.edits.specs.Going.{Case, Going}
 use Rattle.edits.proofs.list_pieces.Given as goal
 
 abbrev pub invariant-loop-pos : goal.invariant-loop-pos

@@ -1,8 +1,6 @@
 -- `edits::list_words` meets its contract: by the judgement of the edits. Assumes nothing.
 use mathlib.Core.Path.{refl}
 use native.Mathlib.Omega.{arith}
-use lib.ListN.{length}
-use borrow.Author.Tests.{not-true, not-false}
 use Rattle.definitions.specs.Tree.{yield, NRow, erase, InOrder}
 use Rattle.theory.specs.Check.Says.{Says, refused}
 use Rattle.edits.specs.Made.{Tokens, tokens_few, InOrderOf, six, made}

@@ -1,11 +1,9 @@
 -- `edits::mark_to` meets its contract. The loop's invariant is `Marking` at place i, for every row of which it held before. The measure is
 -- the places left. Assumes nothing.
-use mathlib.Core.Path.{◌≡◌, refl, ◌∙◌}
-use mathlib.Core.List.{List}
-use Prim.Native.Nat.{ℕ, ◌-◌, ◌≤◌}
+use mathlib.Core.Path.{refl, ◌∙◌}
+use Prim.Native.Nat.{◌≤◌}
 use native.Mathlib.Omega.{arith}
-use lib.ListN.{length}
-use Rattle.edits.specs.Marks.{Marking, Clear, marks_few, marks_place}
+use Rattle.edits.specs.Marks.{marks_few, marks_place}
 use Rattle.edits.proofs.mark_to.Goals as goal
 use Rattle.edits.proofs.mark_to.Goals.{At-loop-i}
 
@@ -16,7 +14,7 @@ loop-i-init c =
     (omega arith, refl, λ row r n k M C. M)
 
 -- the marks that are written fit their words
-few : (l : At-loop-i) →    (l.args.m.puts ≤ 2048) × (l.loop-i.out ≤ l.loop-i.i) × (l.loop-i.i ≤ l.requires.1.2) × (l.requires.1.2 ≤ 2048)
+few : (l : At-loop-i) → (l.args.m.puts ≤ 2048) × (l.loop-i.out ≤ l.loop-i.i) × (l.loop-i.i ≤ l.requires.1.2) × (l.requires.1.2 ≤ 2048)
 few l = let p = l.requires.1 in marks_few (l.loop-i.invariant.2 p.0 p.1 p.2 p.3 p.4 p.5)
 
 pub overflow_add-out : goal.overflow_add-out

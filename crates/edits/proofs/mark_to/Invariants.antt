@@ -1,11 +1,10 @@
 -- `edits::mark_to` meets its contract. The loop's invariant is `Marking` at place i, for every row of which it held before. The measure is
 -- the places left. Assumes nothing.
-use mathlib.Core.Path.{◌≡◌, refl, ◌∙◌}
+use mathlib.Core.Path.{◌≡◌}
 use mathlib.Core.List.{List}
 use Prim.Native.Nat.{ℕ, ◌-◌, ◌≤◌}
-use native.Mathlib.Omega.{arith}
 use lib.ListN.{length}
-use Rattle.edits.specs.Marks.{Marking, Clear, marks_few, marks_place}
+use Rattle.edits.specs.Marks.{Marking, Clear}
 use Rattle.edits.proofs.mark_to.Given as goal
 
 abbrev pub invariant-loop-i : goal.invariant-loop-i

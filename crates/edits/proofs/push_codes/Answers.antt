@@ -1,9 +1,8 @@
 -- `edits::push_codes` meets its contract. The loop's invariant: the codes from j on are on the list. The measure is j. Assumes nothing.
 use mathlib.Core.Path.{◌≡◌}
-use Prim.Native.Nat.{◌≤◌}
 use native.Mathlib.Omega.{arith}
 use borrow.Author.Rules.{rules}
-use Rattle.edits.specs.Pushing.{Pushes, pushes_none, pushes_code}
+use Rattle.edits.specs.Pushing.{pushes_none, pushes_code}
 use Rattle.edits.proofs.push_codes.Goals as goal
 
 pub loop-j-init : goal.loop-j-init

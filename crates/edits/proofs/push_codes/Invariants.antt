@@ -1,9 +1,6 @@
 -- `edits::push_codes` meets its contract. The loop's invariant: the codes from j on are on the list. The measure is j. Assumes nothing.
-use mathlib.Core.Path.{◌≡◌}
 use Prim.Native.Nat.{◌≤◌}
-use native.Mathlib.Omega.{arith}
-use borrow.Author.Rules.{rules}
-use Rattle.edits.specs.Pushing.{Pushes, pushes_none, pushes_code}
+use Rattle.edits.specs.Pushing.{Pushes}
 use Rattle.edits.proofs.push_codes.Given as goal
 
 abbrev pub invariant-loop-j : goal.invariant-loop-j

@@ -1,10 +1,9 @@
 -- `edits::walk_words` meets its contract. The loop's invariant is `Passed`: the records passed are in order, and what is left of the row
 -- decides the rest. The measure is the words left. Assumes nothing.
 use mathlib.Core.Path.{◌≡◌, refl}
-use Prim.Native.Nat.{◌-◌, ◌≤◌}
 use native.Mathlib.Omega.{arith}
 use lib.ListN.{length}
-use Rattle.edits.specs.Fits.{Passed, passed_none, passed_on, passed_part}
+use Rattle.edits.specs.Fits.{passed_none, passed_on, passed_part}
 use Rattle.edits.proofs.walk_words.Goals as goal
 
 pub loop-i-init : goal.loop-i-init

@@ -1,10 +1,8 @@
 -- `edits::walk_words` meets its contract. The loop's invariant is `Passed`: the records passed are in order, and what is left of the row
 -- decides the rest. The measure is the words left. Assumes nothing.
-use mathlib.Core.Path.{◌≡◌, refl}
 use Prim.Native.Nat.{◌-◌, ◌≤◌}
-use native.Mathlib.Omega.{arith}
 use lib.ListN.{length}
-use Rattle.edits.specs.Fits.{Passed, passed_none, passed_on, passed_part}
+use Rattle.edits.specs.Fits.{Passed}
 use Rattle.edits.proofs.walk_words.Given as goal
 
 abbrev pub invariant-loop-i : goal.invariant-loop-i

@@ -1,10 +1,8 @@
 -- `list::first_token` meets its contract: record after record is passed over until one is a token. Assumes nothing.
-use mathlib.Core.Path.{◌≡◌, refl, sym, ◌∙◌}
-use Prim.Native.Nat.{◌-◌}
-use native.Mathlib.Omega.{arith}
+use mathlib.Core.Path.{refl, sym, ◌∙◌}
 use borrow.Author.Tests.{lt-ltb, le-ltb}
-use lib.ListN.{length, get_or, drop}
-use Rattle.list.specs.Runs.{first_of, first_next, first_none}
+use lib.ListN.{get_or}
+use Rattle.list.specs.Runs.{first_next, first_none}
 use Rattle.list.proofs.first_token.Goals as goal
 
 pub loop-i-init : goal.loop-i-init

@@ -1,10 +1,8 @@
 -- `list::first_token` meets its contract: record after record is passed over until one is a token. Assumes nothing.
-use mathlib.Core.Path.{◌≡◌, refl, sym, ◌∙◌}
+use mathlib.Core.Path.{◌≡◌}
 use Prim.Native.Nat.{◌-◌}
-use native.Mathlib.Omega.{arith}
-use borrow.Author.Tests.{lt-ltb, le-ltb}
-use lib.ListN.{length, get_or, drop}
-use Rattle.list.specs.Runs.{first_of, first_next, first_none}
+use lib.ListN.{length, drop}
+use Rattle.list.specs.Runs.{first_of}
 use Rattle.list.proofs.first_token.Given as goal
 
 abbrev pub invariant-loop-i : goal.invariant-loop-i

@@ -1,13 +1,12 @@
 -- `list::open` meets its contract: the children are passed from the last back. Assumes nothing.
-use mathlib.Core.Path.{◌≡◌, refl, sym, ◌∙◌, subst}
+use mathlib.Core.Path.{◌≡◌, subst}
 use mathlib.Core.List.{List}
-use Prim.Native.Nat.{ℕ, suc, ◌+◌, ◌-◌, ◌≤◌, ◌<◌}
+use Prim.Native.Nat.{ℕ, suc, ◌+◌, ◌-◌}
 use native.Mathlib.Omega.{arith}
-use lib.ListN.{length, get_or}
 use Rattle.definitions.specs.Tree.{Row}
 use Rattle.tree.specs.Rows.{size_at}
 use Rattle.list.specs.Pieces.{root}
-use Rattle.list.specs.Opening.{Opens, Opening, opens, opened, Child, child, goes, Elsewhere, unmoved, keeps_elsewhere}
+use Rattle.list.specs.Opening.{Opens, Opening, opens, opened, Child, child, goes, unmoved, keeps_elsewhere}
 use borrow.Author.Rules.{rules}
 use Rattle.list.proofs.open.Goals as goal
 use Rattle.list.proofs.open.Goals.{In-loop-pos}

@@ -1,14 +1,8 @@
 -- `list::open` meets its contract: the children are passed from the last back. Assumes nothing.
-use mathlib.Core.Path.{◌≡◌, refl, sym, ◌∙◌, subst}
 use mathlib.Core.List.{List}
-use Prim.Native.Nat.{ℕ, suc, ◌+◌, ◌-◌, ◌≤◌, ◌<◌}
-use native.Mathlib.Omega.{arith}
-use lib.ListN.{length, get_or}
+use Prim.Native.Nat.{ℕ, ◌≤◌}
 use Rattle.definitions.specs.Tree.{Row}
-use Rattle.tree.specs.Rows.{size_at}
-use Rattle.list.specs.Pieces.{root}
-use Rattle.list.specs.Opening.{Opens, Opening, opens, opened, Child, child, goes, Elsewhere, unmoved, keeps_elsewhere}
-use borrow.Author.Rules.{rules}
+use Rattle.list.specs.Opening.{Opens, Opening, Elsewhere}
 use Rattle.list.proofs.open.Given as goal
 
 abbrev pub invariant-loop-pos : goal.invariant-loop-pos

@@ -1,10 +1,7 @@
 -- `list::tokens_left` meets its contract: entry after entry is weighed. Assumes nothing.
-use mathlib.Core.Path.{◌≡◌, refl, sym, ap, ◌∙◌, subst}
-use mathlib.Core.List.{List}
-use Prim.Native.Nat.{ℕ, ◌+◌, ◌-◌, ◌≤◌}
+use Prim.Native.Nat.{◌-◌}
 use native.Mathlib.Omega.{arith}
-use Rattle.definitions.specs.Tree.{Row}
-use Rattle.list.specs.Weigh.{Counting, Weighing, all_weighed, none_weighed, few_left, on-top, one_weighed}
+use Rattle.list.specs.Weigh.{Weighing, all_weighed, none_weighed, few_left, on-top, one_weighed}
 use borrow.Author.Rules.{rules}
 use Rattle.list.proofs.tokens_left.Goals as goal
 use Rattle.list.proofs.tokens_left.Goals.{In-loop-k}

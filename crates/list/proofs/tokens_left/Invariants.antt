@@ -1,11 +1,8 @@
 -- `list::tokens_left` meets its contract: entry after entry is weighed. Assumes nothing.
-use mathlib.Core.Path.{◌≡◌, refl, sym, ap, ◌∙◌, subst}
 use mathlib.Core.List.{List}
-use Prim.Native.Nat.{ℕ, ◌+◌, ◌-◌, ◌≤◌}
-use native.Mathlib.Omega.{arith}
+use Prim.Native.Nat.{ℕ}
 use Rattle.definitions.specs.Tree.{Row}
-use Rattle.list.specs.Weigh.{Counting, Weighing, all_weighed, none_weighed, few_left, on-top, one_weighed}
-use borrow.Author.Rules.{rules}
+use Rattle.list.specs.Weigh.{Counting, Weighing}
 use Rattle.list.proofs.tokens_left.Given as goal
 
 abbrev pub invariant-loop-k : goal.invariant-loop-k

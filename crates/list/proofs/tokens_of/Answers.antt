@@ -1,12 +1,11 @@
 -- `list::tokens_of` meets its contract: a piece's tokens are the difference of two counts. Assumes nothing.
-use mathlib.Core.Path.{◌≡◌, refl, sym, ap, ◌∙◌, subst}
-use mathlib.Core.List.{List}
+use mathlib.Core.Path.{◌≡◌, ap, ◌∙◌}
 use Prim.Native.Nat.{ℕ, suc, ◌+◌, ◌-◌, ◌≤◌, ◌<◌}
 use native.Mathlib.Omega.{arith}
 use lib.ListN.{get_or}
 use Rattle.tree.specs.Rows.{size_at}
 use Rattle.list.specs.Pending.{tokens_at}
-use Rattle.list.specs.Weigh.{Weighed, Weighs, weight}
+use Rattle.list.specs.Weigh.{Weighs, weight}
 use Rattle.list.proofs.tokens_of.Goals as goal
 use Rattle.list.proofs.tokens_of.Goals.{After-size_at, Then-entry-lt-CODES}
 
@@ -51,6 +50,6 @@ returns-then-entry-lt-CODES c =
 
 pub returns-else-entry-lt-CODES : goal.returns-else-entry-lt-CODES
 returns-else-entry-lt-CODES c = record {
-      by_index = λ t put m f W. (weight W).code c.if-entry-lt-CODES.false;
-      upper_bound = omega arith;
-    }
+  by_index = λ t put m f W. (weight W).code c.if-entry-lt-CODES.false;
+  upper_bound = omega arith;
+}

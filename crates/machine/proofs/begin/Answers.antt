@@ -7,6 +7,6 @@ use Rattle.machine.proofs.begin.Goals as goal
 
 pub returns : goal.returns
 returns c = let r = c.args.room.now in record {
-      holds = empty r (omega arith);
-      room_unchanged = drop-set-lt states_end r states_at 0 (omega arith);
-    }
+  holds = empty r (omega arith);
+  room_unchanged = drop-set-lt states_end r states_at 0 (omega arith);
+}

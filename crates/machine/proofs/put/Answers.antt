@@ -16,6 +16,6 @@ bounds-room-n-4 c = simp length-set (omega arith)
 
 pub returns : goal.returns
 returns c = let a = c.args in record {
-      room_after = refl;
-      room_unchanged = put_rest a.room.now a.n a.s a.kind a.number a.size c.requires.1;
-    }
+  room_after = refl;
+  room_unchanged = put_rest a.room.now a.n a.s a.kind a.number a.size c.requires.1;
+}

@@ -1,10 +1,10 @@
 -- `machine::wipe` meets its contract: after i turns the first i words are 0. Assumes nothing.
-use mathlib.Core.Path.{◌≡◌, ap, ◌∙◌}
+use mathlib.Core.Path.{ap, ◌∙◌}
 use mathlib.Core.List.{List}
-use Prim.Native.Nat.{ℕ, ◌-◌, ◌≤◌}
+use Prim.Native.Nat.{ℕ}
 use native.Mathlib.Omega.{arith}
-use lib.ListN.{length, set}
-use Rattle.machine.specs.Wiped.{wiped, wiped-more, wiped_all}
+use lib.ListN.{set}
+use Rattle.machine.specs.Wiped.{wiped-more, wiped_all}
 use borrow.Author.Rules.{rules}
 use Rattle.machine.proofs.wipe.Goals as goal
 

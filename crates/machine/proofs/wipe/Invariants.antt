@@ -1,11 +1,8 @@
 -- `machine::wipe` meets its contract: after i turns the first i words are 0. Assumes nothing.
-use mathlib.Core.Path.{◌≡◌, ap, ◌∙◌}
-use mathlib.Core.List.{List}
-use Prim.Native.Nat.{ℕ, ◌-◌, ◌≤◌}
-use native.Mathlib.Omega.{arith}
-use lib.ListN.{length, set}
-use Rattle.machine.specs.Wiped.{wiped, wiped-more, wiped_all}
-use borrow.Author.Rules.{rules}
+use mathlib.Core.Path.{◌≡◌}
+use Prim.Native.Nat.{◌-◌, ◌≤◌}
+use lib.ListN.{length}
+use Rattle.machine.specs.Wiped.{wiped}
 use Rattle.machine.proofs.wipe.Given as goal
 
 abbrev pub invariant-loop-i : goal.invariant-loop-i

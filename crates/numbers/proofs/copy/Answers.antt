@@ -3,7 +3,7 @@ use mathlib.Core.Path.{◌≡◌}
 use Prim.Native.Nat.{ℕ, ◌+◌, ◌-◌, ◌*◌, ◌≤◌, ◌<◌}
 use native.Mathlib.Omega.{arith}
 use lib.ListN.{length}
-use Rattle.numbers.specs.Copies.{Copies, copies_none, copy_more}
+use Rattle.numbers.specs.Copies.{copies_none, copy_more}
 use borrow.Author.Rules.{rules}
 use Rattle.numbers.proofs.copy.Goals as goal
 use Rattle.numbers.proofs.copy.Goals.{In-loop-i}

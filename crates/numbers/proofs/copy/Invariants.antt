@@ -1,10 +1,6 @@
 -- `numbers::copy` meets its contract. The loop's invariant is `Copies`: the records before i have their numbers. Assumes nothing.
-use mathlib.Core.Path.{◌≡◌}
-use Prim.Native.Nat.{ℕ, ◌+◌, ◌-◌, ◌*◌, ◌≤◌, ◌<◌}
-use native.Mathlib.Omega.{arith}
-use lib.ListN.{length}
-use Rattle.numbers.specs.Copies.{Copies, copies_none, copy_more}
-use borrow.Author.Rules.{rules}
+use Prim.Native.Nat.{◌-◌, ◌≤◌}
+use Rattle.numbers.specs.Copies.{Copies}
 use Rattle.numbers.proofs.copy.Given as goal
 
 abbrev pub invariant-loop-i : goal.invariant-loop-i

@@ -1,9 +1,8 @@
 -- `numbers::count_new` meets its contract. The loop's invariant: k counts the new numbers before j. Assumes nothing.
 use mathlib.Core.Path.{◌≡◌, sym, ap}
-use Prim.Native.Nat.{◌-◌, ◌≤◌}
 use native.Mathlib.Omega.{arith}
 use Rattle.numbers.specs.Records.{front}
-use Rattle.numbers.specs.Write.{is_new, news, news-none, news-more, news_few}
+use Rattle.numbers.specs.Write.{is_new, news-none, news-more, news_few}
 use Rattle.numbers.proofs.count_new.Goals as goal
 
 pub loop-j-init : goal.loop-j-init

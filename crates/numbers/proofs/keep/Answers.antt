@@ -28,7 +28,7 @@ copy-requires c =
 
 pub spots-requires : goal.spots-requires
 spots-requires c =
- let g = c.requires.1.1.1 in let e = counted (goal.at.spots-requires c).After-count_at-m g in record {
+    let g = c.requires.1.1.1 in let e = counted (goal.at.spots-requires c).After-count_at-m g in record {
       in_bounds = c.requires.0;
       shape = shape g;
       old_row = rw e (old_row g);

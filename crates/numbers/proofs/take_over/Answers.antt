@@ -1,11 +1,9 @@
 -- `numbers::take_over` meets its contract. The loop's invariant: `Frame` of the room's words, and `Backing` of what the records from e on keep. Assumes nothing.
 use mathlib.Core.Path.{◌≡◌}
-use Prim.Native.Nat.{◌-◌, ◌≤◌, ◌<◌}
+use Prim.Native.Nat.{◌-◌, ◌<◌}
 use native.Mathlib.Omega.{arith}
-use Rattle.definitions.specs.Tree.{Row, size, NRow, erase}
-use Rattle.numbers.specs.Given.{Given}
-use Rattle.numbers.specs.Copies.{Frame, frame_same, step_less, step_frame, reaches}
-use Rattle.numbers.specs.Back.{Backing, begin, stepped}
+use Rattle.numbers.specs.Copies.{frame_same, step_less, step_frame, reaches}
+use Rattle.numbers.specs.Back.{begin, stepped}
 use Rattle.numbers.proofs.take_over.Goals as goal
 use Rattle.numbers.proofs.take_over.Goals.{After-slice_known-in-loop-e-1}
 

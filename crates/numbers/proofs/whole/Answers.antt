@@ -1,8 +1,6 @@
 -- `numbers::whole` meets its contract. The loop's invariant: the records before j are alike. Assumes nothing.
-use Prim.Native.Nat.{ℕ, ◌-◌, ◌≤◌, ◌<◌}
 use native.Mathlib.Omega.{arith}
-use Rattle.numbers.specs.Records.{front}
-use Rattle.numbers.specs.Whole.{Alike, alike_more}
+use Rattle.numbers.specs.Whole.{alike_more}
 use Rattle.theory.specs.Check.Says.{says_yes, says_no, refused}
 use Rattle.numbers.proofs.whole.Goals as goal
 

@@ -1,9 +1,7 @@
 -- `numbers::whole` meets its contract. The loop's invariant: the records before j are alike. Assumes nothing.
 use Prim.Native.Nat.{ℕ, ◌-◌, ◌≤◌, ◌<◌}
-use native.Mathlib.Omega.{arith}
 use Rattle.numbers.specs.Records.{front}
-use Rattle.numbers.specs.Whole.{Alike, alike_more}
-use Rattle.theory.specs.Check.Says.{says_yes, says_no, refused}
+use Rattle.numbers.specs.Whole.{Alike}
 use Rattle.numbers.proofs.whole.Given as goal
 
 abbrev pub invariant-loop-j : goal.invariant-loop-j

@@ -1,10 +1,10 @@
 -- `numbers::write` meets its contract. The loop's invariant: after j turns the first j records stand in the tree, and `at` is the next number. Assumes nothing.
 use mathlib.Core.Path.{◌≡◌, refl, ap, ◌∙◌}
-use Prim.Native.Nat.{◌+◌, ◌-◌, ◌≤◌, ◌<◌}
+use Prim.Native.Nat.{◌+◌, ◌<◌}
 use native.Mathlib.Omega.{arith}
-use lib.ListN.{length, set, length-set}
+use lib.ListN.{set, length-set}
 use Rattle.numbers.specs.Records.{front}
-use Rattle.numbers.specs.Write.{is_new, news, news-none, news-more, news_le, sofar, row_more, sofar-none, sofar_all}
+use Rattle.numbers.specs.Write.{is_new, news, news-none, news-more, news_le, row_more, sofar-none, sofar_all}
 use borrow.Author.Rules.{rules}
 use Rattle.numbers.proofs.write.Goals as goal
 use Rattle.numbers.proofs.write.Goals.{After-is_new-at}

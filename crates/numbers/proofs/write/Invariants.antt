@@ -1,11 +1,9 @@
 -- `numbers::write` meets its contract. The loop's invariant: after j turns the first j records stand in the tree, and `at` is the next number. Assumes nothing.
-use mathlib.Core.Path.{◌≡◌, refl, ap, ◌∙◌}
-use Prim.Native.Nat.{◌+◌, ◌-◌, ◌≤◌, ◌<◌}
-use native.Mathlib.Omega.{arith}
-use lib.ListN.{length, set, length-set}
+use mathlib.Core.Path.{◌≡◌}
+use Prim.Native.Nat.{◌+◌, ◌-◌, ◌≤◌}
+use lib.ListN.{length}
 use Rattle.numbers.specs.Records.{front}
-use Rattle.numbers.specs.Write.{is_new, news, news-none, news-more, news_le, sofar, row_more, sofar-none, sofar_all}
-use borrow.Author.Rules.{rules}
+use Rattle.numbers.specs.Write.{news, sofar}
 use Rattle.numbers.proofs.write.Given as goal
 
 abbrev pub invariant-loop-j : goal.invariant-loop-j

@@ -6,7 +6,7 @@ use Rattle.definitions.specs.Table.{table_of}
 use Rattle.definitions.specs.Moves.{turn}
 use Rattle.reading.specs.declared.Turn.{Turn}
 use Rattle.reading.specs.Text.{unread}
-use Rattle.reading.specs.Turns.{Does, Running, begins, goes, ends}
+use Rattle.reading.specs.Turns.{Does, begins, goes, ends}
 use Rattle.reading.proofs.run.Goals as goal
 use Rattle.reading.proofs.run.Goals.{After-step-o}
 

@@ -61,12 +61,12 @@ returns-in-NoAction c =
 
 pub returns-in-NoRoom : goal.returns-in-NoRoom
 returns-in-NoRoom c = record {
-      does = λ σ h k. (_, did (goal.at.returns-in-NoRoom c).After-plain-s σ h c.in-NoRoom.is, refl);
-      room_unchanged = c.plain-s.ensures.room_unchanged;
-    }
+  does = λ σ h k. (_, did (goal.at.returns-in-NoRoom c).After-plain-s σ h c.in-NoRoom.is, refl);
+  room_unchanged = c.plain-s.ensures.room_unchanged;
+}
 
 pub returns-in-NoGoto : goal.returns-in-NoGoto
 returns-in-NoGoto c = record {
-      does = λ σ h k. (_, did (goal.at.returns-in-NoGoto c).After-plain-s σ h c.in-NoGoto.is, refl);
-      room_unchanged = c.plain-s.ensures.room_unchanged;
-    }
+  does = λ σ h k. (_, did (goal.at.returns-in-NoGoto c).After-plain-s σ h c.in-NoGoto.is, refl);
+  room_unchanged = c.plain-s.ensures.room_unchanged;
+}

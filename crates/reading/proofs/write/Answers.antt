@@ -1,8 +1,8 @@
 -- `reading::write` meets its contract: after j turns the first j records stand in the tree. Assumes nothing.
 use mathlib.Core.Path.{◌≡◌, refl, ap, ◌∙◌}
-use Prim.Native.Nat.{◌+◌, ◌-◌, ◌≤◌}
+use Prim.Native.Nat.{◌+◌}
 use native.Mathlib.Omega.{arith}
-use lib.ListN.{length, set, length-set}
+use lib.ListN.{set, length-set}
 use Rattle.reading.specs.Write.{sofar, row_more, sofar-none, sofar_all}
 use borrow.Author.Rules.{rules}
 use Rattle.reading.proofs.write.Goals as goal

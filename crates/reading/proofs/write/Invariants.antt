@@ -1,10 +1,8 @@
 -- `reading::write` meets its contract: after j turns the first j records stand in the tree. Assumes nothing.
-use mathlib.Core.Path.{◌≡◌, refl, ap, ◌∙◌}
-use Prim.Native.Nat.{◌+◌, ◌-◌, ◌≤◌}
-use native.Mathlib.Omega.{arith}
-use lib.ListN.{length, set, length-set}
-use Rattle.reading.specs.Write.{sofar, row_more, sofar-none, sofar_all}
-use borrow.Author.Rules.{rules}
+use mathlib.Core.Path.{◌≡◌}
+use Prim.Native.Nat.{◌-◌, ◌≤◌}
+use lib.ListN.{length}
+use Rattle.reading.specs.Write.{sofar}
 use Rattle.reading.proofs.write.Given as goal
 
 abbrev pub invariant-loop-j : goal.invariant-loop-j

@@ -1,7 +1,6 @@
 -- `table::action_code` meets its contract, by the two tests. Assumes nothing.
 use mathlib.Core.Logic.{inl}
 use native.Mathlib.Omega.{arith}
-use borrow.Author.Tests.{not-true, not-false}
 use Rattle.theory.specs.Check.Says.{refused}
 use Rattle.table.specs.Codes.{tells_none, tells_some, five, six}
 use Rattle.table.proofs.action_code.Goals as goal

@@ -1,5 +1,4 @@
 -- `table::check_table` meets its contract, by each of the four answers. Assumes nothing.
-use borrow.Author.Tests.{not-true, not-false}
 use Rattle.theory.specs.Check.Says.{refused}
 use Rattle.table.specs.Answer.{answers_2, answers_3, answers_0, answers_4}
 use Rattle.table.proofs.check_table.Goals as goal

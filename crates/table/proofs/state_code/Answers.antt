@@ -1,6 +1,5 @@
 -- `table::state_code` meets its contract: the conditions that are judged once, one after the other. Assumes nothing.
 use native.Mathlib.Omega.{arith}
-use borrow.Author.Tests.{not-true, not-false}
 use Rattle.theory.specs.Check.Says.{refused}
 use Rattle.table.specs.Codes.{tells_some, first, second, seventh, state_then}
 use Rattle.table.proofs.state_code.Goals as goal

@@ -1,9 +1,8 @@
 -- `updating::enter` meets its contract: the goto says which of the two moves. Assumes nothing.
 use mathlib.Core.Path.{◌≡◌, refl, sym, ap, ◌∙◌, subst}
 use mathlib.Core.List.{List}
-use Prim.Native.Nat.{ℕ, ◌+◌, ◌-◌, ◌≤◌, ◌<◌}
+use Prim.Native.Nat.{ℕ, ◌-◌}
 use native.Mathlib.Omega.{arith}
-use native.Mathlib.Nat.{add-sub_cancel_left}
 use Rattle.definitions.specs.Table.{table_of}
 use Rattle.definitions.specs.Tree.{Row, ◌⧺◌}
 use Rattle.definitions.specs.Reading.{Stack, top}

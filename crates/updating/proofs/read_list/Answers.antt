@@ -1,17 +1,16 @@
 -- `updating::read_list` meets its contract: in each turn the reading from there on comes to what the whole comes to. Assumes nothing.
 use mathlib.Core.Path.{◌≡◌, refl, sym, ap, ◌∙◌, subst}
-use mathlib.Core.List.{List}
-use Prim.Native.Nat.{ℕ, suc, ◌+◌, ◌-◌, ◌*◌, ◌≤◌, ◌<◌}
+use Prim.Native.Nat.{ℕ, suc, ◌+◌, ◌-◌, ◌≤◌}
 use native.Mathlib.Omega.{arith}
 use lib.ListN.{length}
 use Rattle.definitions.specs.Table.{table_of}
-use Rattle.definitions.specs.Tree.{Row, size, toks}
+use Rattle.definitions.specs.Tree.{Row, size}
 use Rattle.definitions.specs.Reading.{shifted, refused}
 use Rattle.definitions.specs.Moves.{turn, Done}
 use Rattle.list.specs.Pending.{pending_toks}
 use Rattle.updating.specs.declared.Turn.{Turn}
 use Rattle.updating.specs.Turns.{Listed, Does, Above, list_stands, above_states, counting_of}
-use Rattle.updating.specs.Running.{list_size, few_nodes, counting, Running, begins, held_then, small_then, falls, looks_still, goes, ends, counts_few, above_on}
+use Rattle.updating.specs.Running.{few_nodes, counting, Running, begins, small_then, falls, looks_still, goes, ends, counts_few, above_on}
 use borrow.Author.Rules.{rules}
 use Rattle.updating.proofs.read_list.Goals as goal
 use Rattle.updating.proofs.read_list.Goals.{After-begin, After-take_turn-o, After-tokens_left, At-loop-n}
@@ -195,14 +194,14 @@ shape_of-room-in-Taken c = length-then (goal.at.shape_of-room-in-Taken c).After-
 
 pub returns-in-Taken : goal.returns-in-Taken
 returns-in-Taken c = record {
-      ends = λ f L.
+  ends = λ f L.
       let M = start (goal.at.returns-in-Taken c).After-begin f L in
       let R = c.loop-n.invariant f M in
       let d = did (goal.at.returns-in-Taken c).After-take_turn-o f M c.in-Taken.is in
       let e = ends R d.0 in
       record { stack = R.stack; is = ap (λ (x : Done). x.end) e; counts = ap (λ (x : Done). x.counts) e ∙ sym c.counts.ensures; small = R.small; holds = d.1 };
-      above = above_then (goal.at.returns-in-Taken c).After-take_turn-o;
-    }
+  above = above_then (goal.at.returns-in-Taken c).After-take_turn-o;
+}
 
 pub tokens_left-requires : goal.tokens_left-requires
 tokens_left-requires c =
@@ -219,34 +218,34 @@ shape_of-room-in-NoAction c = length-then (goal.at.shape_of-room-in-NoAction c).
 
 pub returns-in-NoAction : goal.returns-in-NoAction
 returns-in-NoAction c = record {
-      ends = λ f L.
+  ends = λ f L.
       let M = start (goal.at.returns-in-NoAction c).After-begin f L in
       let R = c.loop-n.invariant f M in
       let d = did (goal.at.returns-in-NoAction c).After-take_turn-o f M c.in-NoAction.is in
       let h = shifted-then c f M in
       let w = total-few c in
       (ap (λ (x : Done). x.end) (ends R d.0) ∙ ap (λ (i : ℕ). refused 7 i) (omega arith), omega arith);
-      above = above_then (goal.at.returns-in-NoAction c).After-take_turn-o;
-    }
+  above = above_then (goal.at.returns-in-NoAction c).After-take_turn-o;
+}
 
 pub shape_of-room-in-NoRoom : goal.shape_of-room-in-NoRoom
 shape_of-room-in-NoRoom c = length-then (goal.at.shape_of-room-in-NoRoom c).After-take_turn-o
 
 pub returns-in-NoRoom : goal.returns-in-NoRoom
 returns-in-NoRoom c = record {
-      ends = λ f L.
+  ends = λ f L.
       let M = start (goal.at.returns-in-NoRoom c).After-begin f L in
       ap (λ (x : Done). x.end) (ends (c.loop-n.invariant f M) (did (goal.at.returns-in-NoRoom c).After-take_turn-o f M c.in-NoRoom.is));
-      above = above_then (goal.at.returns-in-NoRoom c).After-take_turn-o;
-    }
+  above = above_then (goal.at.returns-in-NoRoom c).After-take_turn-o;
+}
 
 pub shape_of-room-in-NoGoto : goal.shape_of-room-in-NoGoto
 shape_of-room-in-NoGoto c = length-then (goal.at.shape_of-room-in-NoGoto c).After-take_turn-o
 
 pub returns-in-NoGoto : goal.returns-in-NoGoto
 returns-in-NoGoto c = record {
-      ends = λ f L.
+  ends = λ f L.
       let M = start (goal.at.returns-in-NoGoto c).After-begin f L in
       ap (λ (x : Done). x.end) (ends (c.loop-n.invariant f M) (did (goal.at.returns-in-NoGoto c).After-take_turn-o f M c.in-NoGoto.is));
-      above = above_then (goal.at.returns-in-NoGoto c).After-take_turn-o;
-    }
+  above = above_then (goal.at.returns-in-NoGoto c).After-take_turn-o;
+}

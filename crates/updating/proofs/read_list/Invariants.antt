@@ -1,18 +1,8 @@
 -- `updating::read_list` meets its contract: in each turn the reading from there on comes to what the whole comes to. Assumes nothing.
-use mathlib.Core.Path.{◌≡◌, refl, sym, ap, ◌∙◌, subst}
-use mathlib.Core.List.{List}
-use Prim.Native.Nat.{ℕ, suc, ◌+◌, ◌-◌, ◌*◌, ◌≤◌, ◌<◌}
-use native.Mathlib.Omega.{arith}
-use lib.ListN.{length}
-use Rattle.definitions.specs.Table.{table_of}
-use Rattle.definitions.specs.Tree.{Row, size, toks}
-use Rattle.definitions.specs.Reading.{shifted, refused}
-use Rattle.definitions.specs.Moves.{turn, Done}
-use Rattle.list.specs.Pending.{pending_toks}
-use Rattle.updating.specs.declared.Turn.{Turn}
-use Rattle.updating.specs.Turns.{Listed, Does, Above, list_stands, above_states, counting_of}
-use Rattle.updating.specs.Running.{list_size, few_nodes, counting, Running, begins, held_then, small_then, falls, looks_still, goes, ends, counts_few, above_on}
-use borrow.Author.Rules.{rules}
+use Prim.Native.Nat.{◌+◌, ◌-◌}
+use Rattle.definitions.specs.Tree.{Row}
+use Rattle.updating.specs.Turns.{Listed}
+use Rattle.updating.specs.Running.{list_size, counting, Running}
 use Rattle.updating.proofs.read_list.Given as goal
 
 abbrev pub invariant-loop-n : goal.invariant-loop-n

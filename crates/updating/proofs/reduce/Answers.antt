@@ -1,5 +1,5 @@
 -- `updating::reduce` meets its contract: the room is judged, then the machine reduces. Assumes nothing.
-use mathlib.Core.Path.{◌≡◌, refl, sym, ap, ◌∙◌, subst}
+use mathlib.Core.Path.{refl, ◌∙◌, subst}
 use lib.ListN.{length}
 use Rattle.definitions.specs.Table.{table_of}
 use Rattle.definitions.specs.Tree.{∅}
@@ -11,9 +11,9 @@ use Rattle.updating.proofs.reduce.Goals as goal
 
 pub returns-then-n-ge-NODES : goal.returns-then-n-ge-NODES
 returns-then-n-ge-NODES c = record {
-      reduces = λ σ h f. reduce_full (table_of c.args.t.now) c.args.n c.args.p σ f c.if-n-ge-NODES.true;
-      room_unchanged = refl;
-    }
+  reduces = λ σ h f. reduce_full (table_of c.args.t.now) c.args.n c.args.p σ f c.if-n-ge-NODES.true;
+  room_unchanged = refl;
+}
 
 pub returns-in-On : goal.returns-in-On
 returns-in-On c =

@@ -1,6 +1,5 @@
 -- `updating::take_end` meets its contract: one law for each way out. Assumes nothing.
 use mathlib.Core.Path.{refl, ap}
-use native.Mathlib.Omega.{arith}
 use Rattle.machine.specs.Lookups.{act_is}
 use Rattle.updating.specs.Tokens.{none, accepted, full, end}
 use Rattle.updating.proofs.take_end.Goals as goal

@@ -1,26 +1,21 @@
 -- `updating::take_turn` meets its contract: a reduction is the action's; else the length of the next entry's run says what is next. Assumes
 -- nothing.
 use mathlib.Core.Path.{◌≡◌, refl, sym, ap, ◌∙◌, subst}
-use mathlib.Core.List.{[], ◌∷◌}
-use mathlib.Core.Logic.{⊎_elim}
 use Prim.Native.Nat.{ℕ, ◌+◌, ◌-◌, ◌<◌}
 use native.Mathlib.Omega.{arith}
 use lib.ListN.{length, get_or}
-use denote.Enum.Declared.{tag_of}
-use types.Run.{OneOf}
 use Rattle.definitions.specs.Table.{table_of}
 use Rattle.definitions.specs.Tree.{Row, yield, look}
 use Rattle.definitions.specs.Reading.{Stack, top}
 use Rattle.theory.specs.Table.Transitions.{red_prod}
 use Rattle.machine.specs.declared.Act as Code
 use Rattle.machine.specs.declared.Act.TheVariants.{Error, Accept, Shift, Reduce}
-use Rattle.machine.specs.contracts.Act as ActOf
 use Rattle.machine.specs.Room.{Holds}
 use Rattle.machine.specs.Lookups.{act_is}
 use Rattle.machine.specs.Steps.{Stands}
 use Rattle.list.specs.Pending.{list_at, pending_toks}
 use Rattle.list.specs.Runs.{Fits, run_of}
-use Rattle.updating.specs.Turns.{Listed, Facing, reduces, Other, error, accept, shift, other_not, enters, Above, above_states}
+use Rattle.updating.specs.Turns.{Listed, Facing, reduces, Other, error, accept, shift, other_not, enters, above_states}
 use Rattle.updating.specs.Next.{Faces, faces, nothing_next, stands_look}
 use borrow.Author.Rules.{rules}
 use Rattle.updating.proofs.take_turn.Goals as goal

@@ -1,10 +1,6 @@
 -- `updating::update_tree` meets its contract: the list is read, its end told, and the room wiped. Assumes nothing.
-use mathlib.Core.Path.{◌≡◌, refl, sym, ap, ◌∙◌, subst}
-use mathlib.Core.List.{List}
-use Prim.Native.Nat.{ℕ, ◌≤◌}
+use mathlib.Core.Path.{ap, ◌∙◌}
 use native.Mathlib.Omega.{arith}
-use Rattle.definitions.specs.Tree.{NRow}
-use Rattle.definitions.specs.Edits.{Edit}
 use Rattle.reading.specs.Fresh.{told}
 use Rattle.updating.specs.Turns.{above_states}
 use Rattle.updating.specs.Finish.{held-row, list, cleared_above}

@@ -1,9 +1,8 @@
 -- `first::firsts` meets its contract: the sets hold only what is in FIRST, and what is missing from them falls. Assumes nothing.
-use mathlib.Core.Path.{◌≡◌, refl, subst, ◌∙◌}
-use borrow.Author.Tests.{not-true, not-false}
-use lib.ListN.{length, replicate}
+use mathlib.Core.Path.{refl, subst, ◌∙◌}
+use lib.ListN.{replicate}
 use Rattle.definitions.specs.Sheet.{P}
-use Rattle.grammar.specs.First.{missing, Sound, Turn}
+use Rattle.grammar.specs.First.{Turn}
 use Rattle.grammar.specs.Turns.{zeros, sound_none, firsts_found}
 use Rattle.grammar.proofs.first.firsts.Goals as goal
 

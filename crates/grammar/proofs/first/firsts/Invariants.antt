@@ -1,10 +1,7 @@
 -- `first::firsts` meets its contract: the sets hold only what is in FIRST, and what is missing from them falls. Assumes nothing.
-use mathlib.Core.Path.{◌≡◌, refl, subst, ◌∙◌}
-use borrow.Author.Tests.{not-true, not-false}
-use lib.ListN.{length, replicate}
-use Rattle.definitions.specs.Sheet.{P}
-use Rattle.grammar.specs.First.{missing, Sound, Turn}
-use Rattle.grammar.specs.Turns.{zeros, sound_none, firsts_found}
+use mathlib.Core.Path.{◌≡◌}
+use lib.ListN.{length}
+use Rattle.grammar.specs.First.{missing, Sound}
 use Rattle.grammar.proofs.first.firsts.Given as goal
 
 abbrev pub invariant-loop-nullable : goal.invariant-loop-nullable

@@ -1,14 +1,13 @@
 -- `first::gather` meets its contract: the symbols from place d up to k have been seen. Assumes nothing.
-use mathlib.Core.Path.{◌≡◌, subst}
+use mathlib.Core.Path.{subst}
 use mathlib.Core.Logic.{◌↔◌}
-use Prim.Native.Nat.{ℕ, ◌≤◌, ◌-◌}
+use Prim.Native.Nat.{ℕ}
 use native.Mathlib.Omega.{arith}
-use borrow.Author.Tests.{not-true, not-false}
-use Rattle.definitions.specs.Sheet.{len, symbol}
+use Rattle.definitions.specs.Sheet.{symbol}
 use Rattle.definitions.specs.States.{Holds}
 use Rattle.definitions.specs.Grammar.{Null}
 use Rattle.theory.specs.Check.Says.{Says, refused}
-use Rattle.grammar.specs.Gathered.{Seen, says_null, seen_none, seen_next, seen_stop, seen_all}
+use Rattle.grammar.specs.Gathered.{says_null, seen_none, seen_next, seen_stop, seen_all}
 use Rattle.grammar.specs.First.{Starts}
 use borrow.Author.Rules.{rules}
 use Rattle.grammar.proofs.first.gather.Goals as goal
@@ -47,14 +46,13 @@ returns-then-not-passes c =
     (refused (tested (goal.at.returns-then-not-passes c).After-passes) c.if-not-passes.true)
 
 pub loop-k-preserved : goal.loop-k-preserved
-loop-k-preserved c =
- (
-      search rules,
-      search rules,
-      omega arith,
-      seen_next _ _ _ _ c.loop-k.k c.loop-k.r.bits c.starts.result.bits _ c.loop-k.invariant.3 (told (goal.at.loop-k-preserved c).After-join-r) c.join-r.ensures
-          ((tested (goal.at.loop-k-preserved c).After-passes).to c.if-not-passes.false),
-    )
+loop-k-preserved c = (
+  search rules,
+  search rules,
+  omega arith,
+  seen_next _ _ _ _ c.loop-k.k c.loop-k.r.bits c.starts.result.bits _ c.loop-k.invariant.3 (told (goal.at.loop-k-preserved c).After-join-r) c.join-r.ensures
+      ((tested (goal.at.loop-k-preserved c).After-passes).to c.if-not-passes.false),
+)
 
 pub returns : goal.returns
 returns c = seen_all _ _ _ _ c.loop-k.k c.loop-k.r.bits _ _ c.loop-k.invariant.3 (omega arith) c.join.ensures

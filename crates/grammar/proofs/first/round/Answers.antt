@@ -1,7 +1,6 @@
 -- `first::round` meets its contract: the productions before p have been looked at in turn. Assumes nothing.
 use mathlib.Core.Path.{◌≡◌, subst, subst⁻¹, ◌∙◌}
-use mathlib.Core.Logic.{⊎_elim}
-use Prim.Native.Nat.{ℕ, ◌+◌, ◌≤◌, ◌-◌}
+use Prim.Native.Nat.{ℕ, ◌+◌}
 use native.Mathlib.Omega.{arith}
 use Rattle.definitions.specs.Sheet.{P}
 use Rattle.sheet.specs.Within.{head_within}
@@ -35,10 +34,10 @@ loop-p-preserved c =
       search rules,
       omega arith,
       elim c.if-turn.branch [
-        then-turn w ↦ subst⁻¹ (Turn s.t.now 0 (p + 1) s.firsts.now gs) w.more-is
-          (turn_more _ 0 p (p + 1) _ _ _ _ f (subst (Turn s.t.now p (p + 1) c.loop-p.firsts gs) w.if-turn.true c.turn.ensures))
+        | then-turn w ↦ subst⁻¹ (Turn s.t.now 0 (p + 1) s.firsts.now gs) w.more-is
+            (turn_more _ 0 p (p + 1) _ _ _ _ f (subst (Turn s.t.now p (p + 1) c.loop-p.firsts gs) w.if-turn.true c.turn.ensures))
         | else-turn w ↦ subst⁻¹ (Turn s.t.now 0 (p + 1) s.firsts.now gs) w.more-is
-          (turn_less _ 0 p (p + 1) _ _ _ _ f (subst (Turn s.t.now p (p + 1) c.loop-p.firsts gs) w.if-turn.false c.turn.ensures))
+            (turn_less _ 0 p (p + 1) _ _ _ _ f (subst (Turn s.t.now p (p + 1) c.loop-p.firsts gs) w.if-turn.false c.turn.ensures))
       ],
     )
 

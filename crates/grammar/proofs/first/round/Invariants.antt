@@ -1,13 +1,8 @@
 -- `first::round` meets its contract: the productions before p have been looked at in turn. Assumes nothing.
-use mathlib.Core.Path.{◌≡◌, subst, subst⁻¹, ◌∙◌}
-use mathlib.Core.Logic.{⊎_elim}
-use Prim.Native.Nat.{ℕ, ◌+◌, ◌≤◌, ◌-◌}
-use native.Mathlib.Omega.{arith}
+use mathlib.Core.Path.{◌≡◌}
+use Prim.Native.Nat.{◌≤◌, ◌-◌}
 use Rattle.definitions.specs.Sheet.{P}
-use Rattle.sheet.specs.Within.{head_within}
 use Rattle.grammar.specs.First.{Turn}
-use Rattle.grammar.specs.Turns.{turn-none, turn_more, turn_less}
-use borrow.Author.Rules.{rules}
 use Rattle.grammar.proofs.first.round.Given as goal
 
 abbrev pub invariant-loop-p : goal.invariant-loop-p

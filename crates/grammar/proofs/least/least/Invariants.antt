@@ -1,11 +1,6 @@
 -- `least::least` meets its contract: every bit is witnessed, and a larger set is a larger number. Assumes nothing.
-use mathlib.Core.Path.{refl}
 use Prim.Native.Nat.{◌-◌, ◌^◌}
-use native.Mathlib.Omega.{arith}
-use Rattle.theory.specs.Check.Says.{refused}
-use Rattle.terminals.specs.Members.{empty_is}
-use Rattle.grammar.specs.Least.{Sound, found}
-use Rattle.grammar.specs.Sets.{within_less}
+use Rattle.grammar.specs.Least.{Sound}
 use Rattle.grammar.proofs.least.least.Given as goal
 
 abbrev pub invariant-loop-next : goal.invariant-loop-next

@@ -1,13 +1,8 @@
 -- `least::ready` meets its contract: every symbol before place k passes. Assumes nothing.
-use mathlib.Core.Path.{◌≡◌, subst, subst⁻¹}
+use mathlib.Core.Path.{◌≡◌}
 use Prim.Native.Nat.{ℕ, ◌≤◌, ◌<◌, ◌-◌}
-use native.Mathlib.Omega.{arith}
-use borrow.Author.Count.{below_none, below_more}
-use borrow.Author.Tests.{not-true, not-false}
 use Rattle.definitions.specs.Sheet.{len, symbol}
-use Rattle.theory.specs.Check.Says.{says_yes, says_no, refused}
 use Rattle.grammar.specs.Least.{Passes}
-use borrow.Author.Rules.{rules}
 use Rattle.grammar.proofs.least.ready.Given as goal
 
 abbrev pub invariant-loop-k : goal.invariant-loop-k

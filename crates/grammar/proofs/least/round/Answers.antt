@@ -1,6 +1,6 @@
 -- `least::round` meets its contract: the productions before p have been looked at in turn. Assumes nothing.
 use mathlib.Core.Path.{◌≡◌, subst}
-use Prim.Native.Nat.{ℕ, ◌≤◌, ◌-◌}
+use Prim.Native.Nat.{ℕ}
 use native.Mathlib.Omega.{arith}
 use Rattle.definitions.specs.Sheet.{P}
 use Rattle.sheet.specs.Within.{head_within}
@@ -16,10 +16,10 @@ loop-p-init c = (search rules, search rules, round_none _ _ _ _)
 
 pub grown-next-requires : goal.grown-next-requires
 grown-next-requires c = record {
-      rights = c.requires.rights;
-      lefts = c.requires.lefts;
-      p_bound = omega arith;
-    }
+  rights = c.requires.rights;
+  lefts = c.requires.lefts;
+  p_bound = omega arith;
+}
 
 pub loop-p-preserved : goal.loop-p-preserved
 loop-p-preserved c =

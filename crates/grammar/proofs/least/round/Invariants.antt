@@ -1,11 +1,8 @@
 -- `least::round` meets its contract: the productions before p have been looked at in turn. Assumes nothing.
-use mathlib.Core.Path.{◌≡◌, subst}
-use Prim.Native.Nat.{ℕ, ◌≤◌, ◌-◌}
-use native.Mathlib.Omega.{arith}
+use mathlib.Core.Path.{◌≡◌}
+use Prim.Native.Nat.{◌≤◌, ◌-◌}
 use Rattle.definitions.specs.Sheet.{P}
-use Rattle.sheet.specs.Within.{head_within}
-use Rattle.grammar.specs.Least.{Round, round_none, round_next}
-use borrow.Author.Rules.{rules}
+use Rattle.grammar.specs.Least.{Round}
 use Rattle.grammar.proofs.least.round.Given as goal
 
 abbrev pub invariant-loop-p : goal.invariant-loop-p

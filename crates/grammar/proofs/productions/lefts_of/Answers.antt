@@ -1,10 +1,9 @@
 -- `productions::lefts_of` meets its contract: the left sides are filled in one by one. Assumes nothing.
 use mathlib.Core.Path.{◌≡◌}
-use Prim.Native.Nat.{ℕ, ◌≤◌, ◌<◌, ◌-◌}
 use native.Mathlib.Omega.{arith}
 use native.Mathlib.Nat.{not-suc-le-zero}
-use lib.ListN.{length, get_or, length-set}
-use Rattle.definitions.specs.Sheet.{P, left}
+use lib.ListN.{length-set}
+use Rattle.definitions.specs.Sheet.{left}
 use Rattle.sheet.specs.Within.{head_within, production_within}
 use Rattle.grammar.specs.Productions.{fill_more}
 use borrow.Author.Rules.{rules}

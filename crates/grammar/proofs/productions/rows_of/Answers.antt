@@ -1,11 +1,8 @@
 -- `productions::rows_of` meets its contract: the rows are filled in one by one. Assumes nothing.
-use mathlib.Core.Path.{◌≡◌}
 use mathlib.Core.List.{[]}
-use Prim.Native.Nat.{ℕ, ◌≤◌, ◌<◌, ◌-◌}
 use native.Mathlib.Omega.{arith}
 use native.Mathlib.Nat.{not-suc-le-zero}
-use lib.ListN.{length, get_or, length-set}
-use Rattle.definitions.specs.Sheet.{P}
+use lib.ListN.{length-set}
 use Rattle.sheet.specs.Within.{head_within, production_within}
 use Rattle.grammar.specs.Productions.{Row, fill_more}
 use borrow.Author.Rules.{rules}

@@ -2,13 +2,9 @@
 use mathlib.Core.Path.{◌≡◌}
 use mathlib.Core.List.{[]}
 use Prim.Native.Nat.{ℕ, ◌≤◌, ◌<◌, ◌-◌}
-use native.Mathlib.Omega.{arith}
-use native.Mathlib.Nat.{not-suc-le-zero}
-use lib.ListN.{length, get_or, length-set}
+use lib.ListN.{length, get_or}
 use Rattle.definitions.specs.Sheet.{P}
-use Rattle.sheet.specs.Within.{head_within, production_within}
-use Rattle.grammar.specs.Productions.{Row, fill_more}
-use borrow.Author.Rules.{rules}
+use Rattle.grammar.specs.Productions.{Row}
 use Rattle.grammar.proofs.productions.rows_of.Given as goal
 
 abbrev pub invariant-loop-p : goal.invariant-loop-p

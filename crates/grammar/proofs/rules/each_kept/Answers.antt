@@ -1,13 +1,8 @@
 -- `rules::each_kept` meets its contract: every production before p keeps both rules. Assumes nothing.
-use mathlib.Core.Path.{◌≡◌}
-use Prim.Native.Nat.{ℕ, ◌≤◌, ◌<◌, ◌-◌}
 use native.Mathlib.Omega.{arith}
 use borrow.Author.Count.{below_none, below_more}
-use borrow.Author.Tests.{not-true, not-false}
-use Rattle.definitions.specs.Sheet.{P}
 use Rattle.theory.specs.Check.Says.{says_yes, says_no, refused}
 use Rattle.sheet.specs.Within.{head_within}
-use Rattle.grammar.specs.Rules.{Inside, Only}
 use borrow.Author.Rules.{rules}
 use Rattle.grammar.proofs.rules.each_kept.Goals as goal
 
@@ -19,9 +14,9 @@ loop-p-init c = (search rules, search rules, below_none _)
 
 pub inside_kept-requires : goal.inside_kept-requires
 inside_kept-requires c = record {
-      rights = c.requires.rights;
-      p_bound = omega arith;
-    }
+  rights = c.requires.rights;
+  p_bound = omega arith;
+}
 
 pub returns-then-not-inside_kept : goal.returns-then-not-inside_kept
 returns-then-not-inside_kept c = says_no (λ h. refused c.inside_kept.ensures c.if-not-inside_kept.true (h _ (omega arith)).0)
@@ -38,13 +33,12 @@ pub returns-then-not-only_kept : goal.returns-then-not-only_kept
 returns-then-not-only_kept c = says_no (λ h. refused c.only_kept.ensures c.if-not-only_kept.true (h _ (omega arith)).1)
 
 pub loop-p-preserved : goal.loop-p-preserved
-loop-p-preserved c =
- (
-      search rules,
-      omega arith,
-      below_more _ _ c.loop-p.invariant.2
-          (c.inside_kept.ensures.to c.if-not-inside_kept.false, c.only_kept.ensures.to c.if-not-only_kept.false),
-    )
+loop-p-preserved c = (
+  search rules,
+  omega arith,
+  below_more _ _ c.loop-p.invariant.2
+      (c.inside_kept.ensures.to c.if-not-inside_kept.false, c.only_kept.ensures.to c.if-not-only_kept.false),
+)
 
 pub returns : goal.returns
 returns c = says_yes (λ p h. c.loop-p.invariant.2 p (omega arith))

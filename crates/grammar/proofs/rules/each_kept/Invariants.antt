@@ -1,14 +1,8 @@
 -- `rules::each_kept` meets its contract: every production before p keeps both rules. Assumes nothing.
 use mathlib.Core.Path.{◌≡◌}
 use Prim.Native.Nat.{ℕ, ◌≤◌, ◌<◌, ◌-◌}
-use native.Mathlib.Omega.{arith}
-use borrow.Author.Count.{below_none, below_more}
-use borrow.Author.Tests.{not-true, not-false}
 use Rattle.definitions.specs.Sheet.{P}
-use Rattle.theory.specs.Check.Says.{says_yes, says_no, refused}
-use Rattle.sheet.specs.Within.{head_within}
 use Rattle.grammar.specs.Rules.{Inside, Only}
-use borrow.Author.Rules.{rules}
 use Rattle.grammar.proofs.rules.each_kept.Given as goal
 
 abbrev pub invariant-loop-p : goal.invariant-loop-p

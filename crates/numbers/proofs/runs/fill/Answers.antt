@@ -1,7 +1,6 @@
 -- `runs::fill` meets its contract: where the run ends, and its words. Assumes nothing.
-use mathlib.Core.Path.{◌≡◌, refl, sym, ◌∙◌}
 use mathlib.Core.List.{List}
-use Prim.Native.Nat.{ℕ, ◌+◌, ◌-◌, ◌≤◌, ◌<◌}
+use Prim.Native.Nat.{ℕ, ◌+◌, ◌≤◌}
 use native.Mathlib.Omega.{arith}
 use Rattle.numbers.specs.Records.{front, Shape}
 use Rattle.numbers.specs.Runs.{Stops, Started, fill_none, shift-low, filling, fill_run}

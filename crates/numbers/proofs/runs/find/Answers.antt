@@ -1,9 +1,7 @@
 -- `runs::find` meets its contract. The loop's invariant is `Seeking`: no record passed is the one sought. Assumes nothing.
-use Prim.Native.Nat.{◌-◌}
 use native.Mathlib.Omega.{arith}
-use Rattle.numbers.specs.Records.{front}
 use Rattle.theory.specs.Check.Says.{refused}
-use Rattle.numbers.specs.Spots.{Seeking, seek-more}
+use Rattle.numbers.specs.Spots.{seek-more}
 use borrow.Author.Rules.{rules}
 use Rattle.numbers.proofs.runs.find.Goals as goal
 

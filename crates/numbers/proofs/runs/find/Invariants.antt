@@ -1,10 +1,7 @@
 -- `runs::find` meets its contract. The loop's invariant is `Seeking`: no record passed is the one sought. Assumes nothing.
 use Prim.Native.Nat.{◌-◌}
-use native.Mathlib.Omega.{arith}
 use Rattle.numbers.specs.Records.{front}
-use Rattle.theory.specs.Check.Says.{refused}
-use Rattle.numbers.specs.Spots.{Seeking, seek-more}
-use borrow.Author.Rules.{rules}
+use Rattle.numbers.specs.Spots.{Seeking}
 use Rattle.numbers.proofs.runs.find.Given as goal
 
 abbrev pub invariant-loop-k : goal.invariant-loop-k

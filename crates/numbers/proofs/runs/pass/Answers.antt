@@ -1,13 +1,13 @@
 -- `runs::pass` meets its contract: a token's word, or a node's. Assumes nothing.
-use mathlib.Core.Path.{◌≡◌, refl, sym, ◌∙◌}
+use mathlib.Core.Path.{◌≡◌, refl}
 use mathlib.Core.List.{List}
 use Prim.Native.Nat.{ℕ, ◌+◌, ◌≤◌, ◌<◌}
 use native.Mathlib.Omega.{arith}
-use lib.ListN.{length, length-set}
+use lib.ListN.{length-set}
 use lib.Seq.{take-set-le}
 use Rattle.machine.specs.Room.{states_at}
 use Rattle.numbers.specs.Records.{front, kind_of}
-use Rattle.numbers.specs.Runs.{Walking, pass_token, pass_node}
+use Rattle.numbers.specs.Runs.{pass_token, pass_node}
 use Rattle.numbers.proofs.runs.pass.Goals as goal
 use Rattle.numbers.proofs.runs.pass.Goals.{After-run_start, After-word_of-v}
 
@@ -72,10 +72,9 @@ returns-then-kind_of-lt256 c =
     )
 
 pub returns-else-kind_of-lt256 : goal.returns-else-kind_of-lt256
-returns-else-kind_of-lt256 c =
- (
-      λ lent S W.
-          let z = W.judging.records in
-          pass_node S c.requires.2 W c.requires.1 c.requires.0 (node c lent z) (rw z at c.first_of.ensures) c.word_of-v.ensures,
-      refl,
-    )
+returns-else-kind_of-lt256 c = (
+  λ lent S W.
+      let z = W.judging.records in
+      pass_node S c.requires.2 W c.requires.1 c.requires.0 (node c lent z) (rw z at c.first_of.ensures) c.word_of-v.ensures,
+  refl,
+)

@@ -1,14 +1,13 @@
 -- `runs::put_run` meets its contract. The loop's invariant: the records stand, and the words of the run are written up to j. Assumes nothing.
-use mathlib.Core.Path.{◌≡◌, refl, sym, ◌∙◌}
-use mathlib.Core.List.{List}
-use Prim.Native.Nat.{ℕ, ◌+◌, ◌-◌, ◌≤◌, ◌<◌}
+use mathlib.Core.Path.{◌≡◌, refl, ◌∙◌}
+use Prim.Native.Nat.{◌+◌, ◌≤◌, ◌<◌}
 use native.Mathlib.Omega.{arith}
 use lib.ListN.{length, length-set}
 use lib.Seq.{take-set-le}
 use Rattle.machine.specs.Room.{states_at}
-use Rattle.numbers.specs.Records.{front, Shape, OldRow, Met}
-use Rattle.numbers.specs.Spots.{Judging, judge-more}
-use Rattle.numbers.specs.Runs.{Filling, fill_more}
+use Rattle.numbers.specs.Records.{front, Shape}
+use Rattle.numbers.specs.Spots.{judge-more}
+use Rattle.numbers.specs.Runs.{fill_more}
 use borrow.Author.Rules.{rules}
 use Rattle.numbers.proofs.runs.put_run.Goals as goal
 use Rattle.numbers.proofs.runs.put_run.Goals.{In-loop-j}
@@ -28,7 +27,7 @@ last_of-last-requires c = let s = small (goal.at.last_of-last-requires c).In-loo
 
 pub first_of-requires : goal.first_of-requires
 first_of-requires c =
- ((small (goal.at.first_of-requires c).In-loop-j).1, shape (goal.at.first_of-requires c).In-loop-j, omega (arith, c.loop-j-test.true, c.requires.3))
+    ((small (goal.at.first_of-requires c).In-loop-j).1, shape (goal.at.first_of-requires c).In-loop-j, omega (arith, c.loop-j-test.true, c.requires.3))
 
 pub overflow_add-room : goal.overflow_add-room
 overflow_add-room c = omega (arith, (small (goal.at.overflow_add-room c).In-loop-j).0)

@@ -1,15 +1,11 @@
 -- `runs::put_run` meets its contract. The loop's invariant: the records stand, and the words of the run are written up to j. Assumes nothing.
-use mathlib.Core.Path.{◌≡◌, refl, sym, ◌∙◌}
+use mathlib.Core.Path.{◌≡◌}
 use mathlib.Core.List.{List}
-use Prim.Native.Nat.{ℕ, ◌+◌, ◌-◌, ◌≤◌, ◌<◌}
-use native.Mathlib.Omega.{arith}
-use lib.ListN.{length, length-set}
-use lib.Seq.{take-set-le}
-use Rattle.machine.specs.Room.{states_at}
-use Rattle.numbers.specs.Records.{front, Shape, OldRow, Met}
-use Rattle.numbers.specs.Spots.{Judging, judge-more}
-use Rattle.numbers.specs.Runs.{Filling, fill_more}
-use borrow.Author.Rules.{rules}
+use Prim.Native.Nat.{ℕ, ◌-◌, ◌≤◌, ◌<◌}
+use lib.ListN.{length}
+use Rattle.numbers.specs.Records.{front, OldRow, Met}
+use Rattle.numbers.specs.Spots.{Judging}
+use Rattle.numbers.specs.Runs.{Filling}
 use Rattle.numbers.proofs.runs.put_run.Given as goal
 
 abbrev pub invariant-loop-j : goal.invariant-loop-j

@@ -1,11 +1,9 @@
 -- `runs::run_end` meets its contract. The loop's invariant: the records up to e are of the run, and i is the old record at e. Assumes
 -- nothing.
 use mathlib.Core.Path.{◌≡◌}
-use Prim.Native.Nat.{ℕ, ◌+◌, ◌-◌, ◌≤◌}
 use native.Mathlib.Omega.{arith}
 use Rattle.theory.specs.Check.Says.{refused}
-use Rattle.numbers.specs.Records.{front}
-use Rattle.numbers.specs.Runs.{Met-all, none_met, met_on}
+use Rattle.numbers.specs.Runs.{none_met, met_on}
 use borrow.Author.Rules.{rules}
 use Rattle.numbers.proofs.runs.run_end.Goals as goal
 

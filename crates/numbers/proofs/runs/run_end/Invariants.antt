@@ -2,11 +2,8 @@
 -- nothing.
 use mathlib.Core.Path.{◌≡◌}
 use Prim.Native.Nat.{ℕ, ◌+◌, ◌-◌, ◌≤◌}
-use native.Mathlib.Omega.{arith}
-use Rattle.theory.specs.Check.Says.{refused}
 use Rattle.numbers.specs.Records.{front}
-use Rattle.numbers.specs.Runs.{Met-all, none_met, met_on}
-use borrow.Author.Rules.{rules}
+use Rattle.numbers.specs.Runs.{Met-all}
 use Rattle.numbers.proofs.runs.run_end.Given as goal
 
 abbrev pub invariant-loop-e : goal.invariant-loop-e

@@ -1,9 +1,7 @@
 -- `runs::run_start` meets its contract. The loop's invariant: the records from e on are of the run. Assumes nothing.
 use Prim.Native.Nat.{◌≤◌}
-use native.Mathlib.Omega.{arith}
-use Rattle.theory.specs.Check.Says.{refused}
 use Rattle.numbers.specs.Records.{front}
-use Rattle.numbers.specs.Runs.{Met-all, none_met, met_back}
+use Rattle.numbers.specs.Runs.{Met-all}
 use Rattle.numbers.proofs.runs.run_start.Given as goal
 
 abbrev pub invariant-loop-e : goal.invariant-loop-e

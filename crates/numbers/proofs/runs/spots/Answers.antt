@@ -1,9 +1,7 @@
 -- `runs::spots` meets its contract. The loop's invariant is `Walking`: the words before the next record are told. Assumes nothing.
 use mathlib.Core.Path.{◌≡◌, refl}
-use Prim.Native.Nat.{◌-◌, ◌≤◌, ◌<◌}
 use native.Mathlib.Omega.{arith}
-use lib.ListN.{length}
-use Rattle.numbers.specs.Runs.{Walking, Started}
+use Rattle.numbers.specs.Runs.{Started}
 use Rattle.numbers.proofs.runs.spots.Goals as goal
 use Rattle.numbers.proofs.runs.spots.Goals.{After-pass-s}
 

@@ -1,9 +1,6 @@
 -- `runs::spots` meets its contract. The loop's invariant is `Walking`: the words before the next record are told. Assumes nothing.
-use mathlib.Core.Path.{◌≡◌, refl}
-use Prim.Native.Nat.{◌-◌, ◌≤◌, ◌<◌}
-use native.Mathlib.Omega.{arith}
-use lib.ListN.{length}
-use Rattle.numbers.specs.Runs.{Walking, Started}
+use Prim.Native.Nat.{◌-◌}
+use Rattle.numbers.specs.Runs.{Walking}
 use Rattle.numbers.proofs.runs.spots.Given as goal
 
 abbrev pub invariant-loop-r : goal.invariant-loop-r

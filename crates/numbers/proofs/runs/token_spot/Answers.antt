@@ -10,32 +10,32 @@ number_of-requires c =
 
 pub returns-then-number_of-eq0 : goal.returns-then-number_of-eq0
 returns-then-number_of-eq0 c =
- token_inserted c.requires.shape c.requires.old_row c.requires.j_lt_n c.requires.j_bound (sym c.number_of.ensures ∙ c.if-number_of-eq0.true)
+    token_inserted c.requires.shape c.requires.old_row c.requires.j_lt_n c.requires.j_bound (sym c.number_of.ensures ∙ c.if-number_of-eq0.true)
 
 pub find-k-requires : goal.find-k-requires
 find-k-requires c =
- let f = c.requires.shape.few in (c.requires.in_bounds, omega (arith, c.requires.j_lt_n), c.requires.from_le_m, c.requires.old_row.long)
+    let f = c.requires.shape.few in (c.requires.in_bounds, omega (arith, c.requires.j_lt_n), c.requires.from_le_m, c.requires.old_row.long)
 
 pub shifted-requires : goal.shifted-requires
 shifted-requires c =
- let f = c.requires.shape.few in let g = c.requires.old_row.few in (omega (arith, c.requires.j_lt_n), omega (arith, c.if-k-m.true))
+    let f = c.requires.shape.few in let g = c.requires.old_row.few in (omega (arith, c.requires.j_lt_n), omega (arith, c.if-k-m.true))
 
 pub returns-then-k-m : goal.returns-then-k-m
 returns-then-k-m c =
- token_found c.requires.shape c.requires.old_row c.requires.j_lt_n c.requires.j_bound c.find-k.result _ c.if-k-m.true c.shifted.ensures (c.find-k.ensures.found c.if-k-m.true)
+    token_found c.requires.shape c.requires.old_row c.requires.j_lt_n c.requires.j_bound c.find-k.result _ c.if-k-m.true c.shifted.ensures (c.find-k.ensures.found c.if-k-m.true)
 
 pub find-i-requires : goal.find-i-requires
 find-i-requires c =
- let f = c.requires.shape.few in let g = c.requires.old_row.long in (c.requires.in_bounds, omega (arith, c.requires.j_lt_n), omega arith, omega (arith, c.requires.from_le_m))
+    let f = c.requires.shape.few in let g = c.requires.old_row.long in (c.requires.in_bounds, omega (arith, c.requires.j_lt_n), omega arith, omega (arith, c.requires.from_le_m))
 
 pub shifted-requires-then-i-from : goal.shifted-requires-then-i-from
 shifted-requires-then-i-from c =
- let f = c.requires.shape.few in let g = c.requires.old_row.few in (omega (arith, c.requires.j_lt_n), omega (arith, c.if-i-from.true, c.requires.from_le_m))
+    let f = c.requires.shape.few in let g = c.requires.old_row.few in (omega (arith, c.requires.j_lt_n), omega (arith, c.if-i-from.true, c.requires.from_le_m))
 
 pub returns-then-i-from : goal.returns-then-i-from
 returns-then-i-from c =
- token_found c.requires.shape c.requires.old_row c.requires.j_lt_n c.requires.j_bound c.find-i.result _ (omega (arith, c.if-i-from.true, c.requires.from_le_m)) c.shifted-then-i-from.ensures (c.find-i.ensures.found c.if-i-from.true)
+    token_found c.requires.shape c.requires.old_row c.requires.j_lt_n c.requires.j_bound c.find-i.result _ (omega (arith, c.if-i-from.true, c.requires.from_le_m)) c.shifted-then-i-from.ensures (c.find-i.ensures.found c.if-i-from.true)
 
 pub returns : goal.returns
 returns c =
- token_nowhere c.requires.shape c.requires.old_row c.requires.j_lt_n c.requires.j_bound c.find-k.ensures c.if-k-m.false c.find-i.ensures c.if-i-from.false
+    token_nowhere c.requires.shape c.requires.old_row c.requires.j_lt_n c.requires.j_bound c.find-k.ensures c.if-k-m.false c.find-i.ensures c.if-i-from.false

@@ -1,12 +1,10 @@
 -- `states::chains::chains_right` meets its contract: condition 7 holds where every item is ready. Assumes nothing.
-use Prim.Native.Nat.{ℕ, ◌-◌, ◌≤◌, ◌<◌}
 use native.Mathlib.Nat.{not-suc-le-zero}
 use native.Mathlib.Omega.{arith}
 use borrow.Author.Count.{below_more}
 use borrow.Author.Rules.{rules}
-use borrow.Author.Tests.{not-true, not-false}
 use Rattle.theory.specs.Check.Says.{says_yes, says_no, refused}
-use Rattle.states.specs.Chains.{Ready, ready_all, all_ready}
+use Rattle.states.specs.Chains.{ready_all, all_ready}
 use Rattle.states.specs.Places.{listed}
 use Rattle.states.proofs.chains.chains_right.Goals as goal
 

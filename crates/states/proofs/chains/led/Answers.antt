@@ -1,9 +1,9 @@
 -- `states::chains::led` meets its contract: a round that adds nothing leaves the set that condition 7 goes by; a set that grew is a larger number, below 2 ^ 64. Assumes nothing.
 use mathlib.Core.Path.{◌≡◌}
-use Prim.Native.Nat.{◌^◌, ◌-◌, ◌≤◌}
+use Prim.Native.Nat.{◌≤◌}
 use native.Mathlib.Omega.{arith}
 use Rattle.theory.specs.Check.Says.{refused}
-use Rattle.states.specs.Chains.{Sound, sound_none, round_same, within_le}
+use Rattle.states.specs.Chains.{sound_none, round_same, within_le}
 use Rattle.states.proofs.chains.led.Goals as goal
 
 pub loop-more-init : goal.loop-more-init

@@ -1,9 +1,6 @@
 -- `states::chains::led` meets its contract: a round that adds nothing leaves the set that condition 7 goes by; a set that grew is a larger number, below 2 ^ 64. Assumes nothing.
-use mathlib.Core.Path.{◌≡◌}
-use Prim.Native.Nat.{◌^◌, ◌-◌, ◌≤◌}
-use native.Mathlib.Omega.{arith}
-use Rattle.theory.specs.Check.Says.{refused}
-use Rattle.states.specs.Chains.{Sound, sound_none, round_same, within_le}
+use Prim.Native.Nat.{◌^◌, ◌-◌}
+use Rattle.states.specs.Chains.{Sound}
 use Rattle.states.proofs.chains.led.Given as goal
 
 abbrev pub invariant-loop-more : goal.invariant-loop-more

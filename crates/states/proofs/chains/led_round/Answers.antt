@@ -1,6 +1,6 @@
 -- `states::chains::led_round` meets its contract: a turn adds what its item opens. Assumes nothing.
 use mathlib.Core.Path.{◌≡◌, subst}
-use Prim.Native.Nat.{ℕ, ◌-◌, ◌≤◌}
+use Prim.Native.Nat.{ℕ}
 use native.Mathlib.Omega.{arith}
 use borrow.Author.Rules.{rules}
 use Rattle.definitions.specs.Sheet.{count}

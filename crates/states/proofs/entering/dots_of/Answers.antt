@@ -1,6 +1,6 @@
 -- `states::entering::dots_of` meets its contract: the array holds the dots of the items passed. Assumes nothing.
 use mathlib.Core.Path.{◌≡◌, subst}
-use Prim.Native.Nat.{ℕ, ◌-◌, ◌≤◌}
+use Prim.Native.Nat.{ℕ}
 use native.Mathlib.Omega.{arith}
 use borrow.Author.Rules.{rules}
 use Rattle.definitions.specs.Sheet.{count}

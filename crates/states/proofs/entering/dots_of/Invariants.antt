@@ -1,11 +1,7 @@
 -- `states::entering::dots_of` meets its contract: the array holds the dots of the items passed. Assumes nothing.
-use mathlib.Core.Path.{◌≡◌, subst}
-use Prim.Native.Nat.{ℕ, ◌-◌, ◌≤◌}
-use native.Mathlib.Omega.{arith}
-use borrow.Author.Rules.{rules}
-use Rattle.definitions.specs.Sheet.{count}
-use Rattle.states.specs.Dots.{Dot, dots_more, dots_all}
-use Rattle.states.specs.Gathering.{SetsTo, sets_none}
+use Prim.Native.Nat.{◌-◌, ◌≤◌}
+use Rattle.states.specs.Dots.{Dot}
+use Rattle.states.specs.Gathering.{SetsTo}
 use Rattle.states.proofs.entering.dots_of.Given as goal
 
 abbrev pub invariant-loop-i : goal.invariant-loop-i

@@ -1,13 +1,6 @@
 -- `states::entering::entered` meets its contract: condition 6 is what it says of every item. Assumes nothing.
 use Prim.Native.Nat.{ℕ, ◌-◌, ◌≤◌, ◌<◌}
-use native.Mathlib.Nat.{not-suc-le-zero}
-use native.Mathlib.Omega.{arith}
-use borrow.Author.Count.{below_more}
-use borrow.Author.Rules.{rules}
-use borrow.Author.Tests.{not-true, not-false}
-use Rattle.theory.specs.Check.Says.{says_yes, says_no, refused}
-use Rattle.states.specs.Dots.{Entered, entered_all, all_entered}
-use Rattle.states.specs.Places.{listed}
+use Rattle.states.specs.Dots.{Entered}
 use Rattle.states.proofs.entering.entered.Given as goal
 
 abbrev pub invariant-loop-i : goal.invariant-loop-i

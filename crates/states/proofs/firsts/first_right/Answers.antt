@@ -1,6 +1,5 @@
 -- `states::firsts::first_right` meets its contract: condition 1 is what it says of every item, and that (0,0) is in state 0. Assumes nothing.
 use mathlib.Core.Path.{sym}
-use borrow.Author.Tests.{not-true, not-false}
 use Rattle.theory.specs.Check.Says.{says_yes, says_no, refused}
 use Rattle.states.specs.Finding.{found_at, found_none}
 use Rattle.states.specs.First.{first_all, all_first, all_starts}

@@ -1,12 +1,9 @@
 -- `states::firsts::firsts_right` meets its contract: all that the items passed are asked holds. Assumes nothing.
-use Prim.Native.Nat.{ℕ, ◌-◌, ◌≤◌, ◌<◌}
 use native.Mathlib.Nat.{not-suc-le-zero}
 use native.Mathlib.Omega.{arith}
 use borrow.Author.Count.{below_more}
 use borrow.Author.Rules.{rules}
-use borrow.Author.Tests.{not-true, not-false}
 use Rattle.theory.specs.Check.Says.{says_yes, says_no, refused}
-use Rattle.states.specs.First.{FirstFits}
 use Rattle.states.specs.Places.{listed}
 use Rattle.states.proofs.firsts.firsts_right.Goals as goal
 

@@ -1,12 +1,7 @@
 -- `states::firsts::zeros` meets its contract: the array holds the sets of the items passed whose dot is 0. Assumes nothing.
-use mathlib.Core.Path.{◌≡◌, sym, subst, ◌∙◌}
-use Prim.Native.Nat.{ℕ, ◌-◌, ◌≤◌}
-use native.Mathlib.Omega.{arith}
-use borrow.Author.Rules.{rules}
-use Rattle.definitions.specs.Sheet.{count}
-use Rattle.terminals.specs.Members.{Join}
-use Rattle.states.specs.Gathering.{SetsTo, sets_none, sets_more}
-use Rattle.states.specs.Zeros.{Zero, zeros_all}
+use Prim.Native.Nat.{◌-◌, ◌≤◌}
+use Rattle.states.specs.Gathering.{SetsTo}
+use Rattle.states.specs.Zeros.{Zero}
 use Rattle.states.proofs.firsts.zeros.Given as goal
 
 abbrev pub invariant-loop-i : goal.invariant-loop-i

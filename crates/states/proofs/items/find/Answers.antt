@@ -1,7 +1,6 @@
 -- `states::items::find` meets its contract: items rise, so the half that is left out has no item (p,d). Assumes nothing.
-use Prim.Native.Nat.{◌-◌}
 use native.Mathlib.Omega.{arith}
-use Rattle.states.proofs.Loops.{Halves, halves_up, halves_down, none_left, same_item}
+use Rattle.states.proofs.Loops.{halves_up, halves_down, none_left, same_item}
 use Rattle.states.proofs.items.find.Goals as goal
 
 pub returns-then-key-want : goal.returns-then-key-want

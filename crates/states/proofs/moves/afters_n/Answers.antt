@@ -1,6 +1,6 @@
 -- `states::moves::afters_n` meets its contract: the set holds what the items passed put in. Assumes nothing.
 use mathlib.Core.Path.{◌≡◌, subst}
-use Prim.Native.Nat.{ℕ, ◌-◌, ◌≤◌}
+use Prim.Native.Nat.{ℕ}
 use native.Mathlib.Omega.{arith}
 use borrow.Author.Rules.{rules}
 use Rattle.definitions.specs.Sheet.{count}

@@ -1,10 +1,6 @@
 -- `states::moves::afters_n` meets its contract: the set holds what the items passed put in. Assumes nothing.
-use mathlib.Core.Path.{◌≡◌, subst}
-use Prim.Native.Nat.{ℕ, ◌-◌, ◌≤◌}
-use native.Mathlib.Omega.{arith}
-use borrow.Author.Rules.{rules}
-use Rattle.definitions.specs.Sheet.{count}
-use Rattle.states.specs.Gathering.{Exactly, Among, AfterNonterminal, among_none, among-more}
+use Prim.Native.Nat.{◌-◌, ◌≤◌}
+use Rattle.states.specs.Gathering.{Exactly, Among, AfterNonterminal}
 use Rattle.states.proofs.moves.afters_n.Given as goal
 
 abbrev pub invariant-loop-i : goal.invariant-loop-i

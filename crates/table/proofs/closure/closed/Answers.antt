@@ -1,13 +1,11 @@
 -- `table::closure::closed` meets its contract: condition 2 is what it says of every production. Assumes nothing.
-use Prim.Native.Nat.{ℕ, ◌-◌, ◌≤◌, ◌<◌}
 use native.Mathlib.Nat.{not-suc-le-zero}
 use native.Mathlib.Omega.{arith}
 use borrow.Author.Count.{below_more}
 use borrow.Author.Rules.{rules}
-use borrow.Author.Tests.{not-true, not-false}
 use Rattle.theory.specs.Check.Says.{says_yes, says_no, refused}
 use Rattle.sheet.specs.Within.{head_within}
-use Rattle.table.specs.Needs.{Met, met_all, all_met}
+use Rattle.table.specs.Needs.{met_all, all_met}
 use Rattle.table.proofs.closure.closed.Goals as goal
 
 pub productions_of-last-requires : goal.productions_of-last-requires

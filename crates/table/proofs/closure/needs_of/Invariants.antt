@@ -1,12 +1,7 @@
 -- `table::closure::needs_of` meets its contract: the array holds what the items passed need. Assumes nothing.
-use mathlib.Core.Path.{◌≡◌, subst}
-use Prim.Native.Nat.{ℕ, ◌-◌, ◌≤◌}
-use native.Mathlib.Omega.{arith}
-use borrow.Author.Rules.{rules}
-use Rattle.definitions.specs.Sheet.{count}
-use Rattle.terminals.specs.Members.{Join}
-use Rattle.states.specs.Gathering.{SetsTo, sets_none, sets_more}
-use Rattle.table.specs.Needs.{Need, need_side, needs_all}
+use Prim.Native.Nat.{◌-◌, ◌≤◌}
+use Rattle.states.specs.Gathering.{SetsTo}
+use Rattle.table.specs.Needs.{Need}
 use Rattle.table.proofs.closure.needs_of.Given as goal
 
 abbrev pub invariant-loop-i : goal.invariant-loop-i

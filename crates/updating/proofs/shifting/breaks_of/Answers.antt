@@ -1,10 +1,10 @@
 -- `updating::shifting::breaks_of` meets its contract: each turn is one break. Assumes nothing.
-use mathlib.Core.Path.{◌≡◌, refl, sym, ap, ◌∙◌, subst}
+use mathlib.Core.Path.{◌≡◌, sym, subst}
 use mathlib.Core.List.{List}
-use Prim.Native.Nat.{ℕ, suc, ◌+◌, ◌*◌, ◌-◌, ◌≤◌, ◌<◌}
+use Prim.Native.Nat.{ℕ, ◌+◌, ◌*◌, ◌-◌, ◌≤◌, ◌<◌}
 use native.Mathlib.Omega.{arith}
 use native.Mathlib.Decide.{dec_le}
-use lib.ListN.{length, get_or}
+use lib.ListN.{get_or}
 use Rattle.definitions.specs.Table.{table_of}
 use Rattle.definitions.specs.Tree.{Row, toks}
 use Rattle.definitions.specs.Moves.{standing}

@@ -1,18 +1,14 @@
 -- `updating::shifting::breaks_of` meets its contract: each turn is one break. Assumes nothing.
-use mathlib.Core.Path.{◌≡◌, refl, sym, ap, ◌∙◌, subst}
+use mathlib.Core.Path.{◌≡◌}
 use mathlib.Core.List.{List}
-use Prim.Native.Nat.{ℕ, suc, ◌+◌, ◌*◌, ◌-◌, ◌≤◌, ◌<◌}
-use native.Mathlib.Omega.{arith}
-use native.Mathlib.Decide.{dec_le}
-use lib.ListN.{length, get_or}
+use Prim.Native.Nat.{ℕ, ◌+◌, ◌*◌, ◌≤◌, ◌<◌}
+use lib.ListN.{length}
 use Rattle.definitions.specs.Table.{table_of}
 use Rattle.definitions.specs.Tree.{Row, toks}
 use Rattle.definitions.specs.Moves.{standing}
-use Rattle.theory.specs.Records.Flat.{flat, length-flat}
+use Rattle.theory.specs.Records.Flat.{flat}
 use Rattle.updating.specs.Records.{Reads}
-use Rattle.updating.specs.Cut.{standing-size}
-use Rattle.updating.specs.Break.{Breaking, all_left, none_left, Broken, broken}
-use borrow.Author.Rules.{rules}
+use Rattle.updating.specs.Break.{Breaking}
 use Rattle.updating.proofs.shifting.breaks_of.Given as goal
 
 abbrev pub invariant-loop-pos : goal.invariant-loop-pos

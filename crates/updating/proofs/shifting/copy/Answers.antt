@@ -2,14 +2,13 @@
 use mathlib.Core.Path.{◌≡◌, refl, sym, ap, ◌∙◌, subst}
 use mathlib.Core.List.{List}
 use mathlib.Core.Option.{some}
-use Prim.Native.Nat.{ℕ, ◌+◌, ◌-◌, ◌*◌, ◌≤◌, ◌<◌}
+use Prim.Native.Nat.{ℕ, ◌+◌}
 use native.Mathlib.Omega.{arith}
-use lib.ListN.{length, get_elem?, drop}
+use lib.ListN.{length, get_elem?}
 use Rattle.definitions.specs.Table.{table_of}
 use Rattle.theory.specs.Records.Flat.{Word}
-use Rattle.machine.specs.Room.{states_end}
 use Rattle.updating.specs.Records.{Reads, word_at, known}
-use Rattle.updating.specs.Copy.{Rooted, Copied, none_copied, copied_one, length-put}
+use Rattle.updating.specs.Copy.{Copied, none_copied, copied_one, length-put}
 use borrow.Author.Rules.{rules}
 use Rattle.updating.proofs.shifting.copy.Goals as goal
 use Rattle.updating.proofs.shifting.copy.Goals.{In-loop-j}
@@ -36,8 +35,7 @@ loop-j-preserved c =
     let l = c.loop-j in
     let p = c.requires in
     let a = c.args in
-    let z = c.copy_one.ensures in
- (
+    let z = c.copy_one.ensures in (
       search rules,
       ap length z.room_after ∙ length-put l.room (a.n + l.j) _ _ _ _ ∙ l.invariant.1,
       z.room_unchanged ∙ l.invariant.2,

@@ -1,16 +1,13 @@
 -- `updating::shifting::copy` meets its contract: record after record. Assumes nothing.
-use mathlib.Core.Path.{◌≡◌, refl, sym, ap, ◌∙◌, subst}
+use mathlib.Core.Path.{◌≡◌}
 use mathlib.Core.List.{List}
-use mathlib.Core.Option.{some}
-use Prim.Native.Nat.{ℕ, ◌+◌, ◌-◌, ◌*◌, ◌≤◌, ◌<◌}
-use native.Mathlib.Omega.{arith}
-use lib.ListN.{length, get_elem?, drop}
+use Prim.Native.Nat.{◌-◌, ◌≤◌}
+use lib.ListN.{length, drop}
 use Rattle.definitions.specs.Table.{table_of}
 use Rattle.theory.specs.Records.Flat.{Word}
 use Rattle.machine.specs.Room.{states_end}
-use Rattle.updating.specs.Records.{Reads, word_at, known}
-use Rattle.updating.specs.Copy.{Rooted, Copied, none_copied, copied_one, length-put}
-use borrow.Author.Rules.{rules}
+use Rattle.updating.specs.Records.{Reads}
+use Rattle.updating.specs.Copy.{Rooted, Copied}
 use Rattle.updating.proofs.shifting.copy.Given as goal
 
 abbrev pub invariant-loop-j : goal.invariant-loop-j

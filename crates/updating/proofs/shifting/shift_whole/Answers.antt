@@ -1,6 +1,6 @@
 -- `updating::shifting::shift_whole` meets its contract: what stands up to the last token is copied. Assumes nothing.
-use mathlib.Core.Path.{◌≡◌, refl, sym, ap, ◌∙◌, subst}
-use Prim.Native.Nat.{ℕ, ◌+◌, ◌≤◌}
+use mathlib.Core.Path.{◌≡◌, refl, ap, ◌∙◌}
+use Prim.Native.Nat.{ℕ, ◌+◌}
 use native.Mathlib.Omega.{arith}
 use Rattle.definitions.specs.Table.{table_of}
 use Rattle.definitions.specs.Tree.{Row, ∅, nod}
@@ -18,9 +18,9 @@ left c σ q d R = c.standing_of-m.ensures.by_index c.args.t.now (flat (nod q d �
 
 pub returns-then-n-m-gt-NODES : goal.returns-then-n-m-gt-NODES
 returns-then-n-m-gt-NODES c = record {
-      shifts = λ σ q d R. omega (arith, left (goal.at.returns-then-n-m-gt-NODES c).After-standing_of-m σ q d R);
-      room_unchanged = refl;
-    }
+  shifts = λ σ q d R. omega (arith, left (goal.at.returns-then-n-m-gt-NODES c).After-standing_of-m σ q d R);
+  room_unchanged = refl;
+}
 
 pub breaks_of-breaks-requires : goal.breaks_of-breaks-requires
 breaks_of-breaks-requires c =

@@ -1,13 +1,11 @@
 -- `updating::shifting::standing_of` meets its contract: records are passed from the last back until one is a token. Assumes nothing.
-use mathlib.Core.Path.{◌≡◌, refl, sym, ap, ◌∙◌, subst}
 use mathlib.Core.List.{List}
-use Prim.Native.Nat.{ℕ, suc, ◌*◌, ◌-◌, ◌≤◌}
-use native.Mathlib.Omega.{arith}
+use Prim.Native.Nat.{ℕ, ◌*◌, ◌≤◌}
 use lib.ListN.{length}
 use Rattle.definitions.specs.Table.{table_of}
 use Rattle.theory.specs.Records.Flat.{Word}
 use Rattle.updating.specs.Records.{Reads}
-use Rattle.updating.specs.Break.{Trimming, all_front, no_front, last_token, no_token}
+use Rattle.updating.specs.Break.{Trimming}
 use Rattle.updating.proofs.shifting.standing_of.Given as goal
 
 abbrev pub invariant-loop-m : goal.invariant-loop-m
