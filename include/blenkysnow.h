@@ -2,7 +2,7 @@
  * Blenkysnow from C: check an LR table, read a text of tokens into a tree, update the tree after edits. Sectioned as document 01, whose
  * rules these calls follow; docs/USERS.md explains them.
  *
- * Link target/staticlib/libboundary.a, which `rt staticlib boundary` writes for x86-64 Linux:
+ * Link target/staticlib/libboundary.a, which `sh tools/build boundary` writes for x86-64 Linux:
  *
  *     gcc -I include program.c target/staticlib/libboundary.a
  *

@@ -127,7 +127,7 @@ tally.group("the header declares what the crate exports", sorted(exported), sort
 tally.group("so does the wrapper", sorted(exported), sorted(set(re.findall(r"\bfn (blenkysnow_\w+)", text("wrapper/src/boundary.rs")))))
 sources = {name: written(name + ".c", program) for name, (program, _) in found.items()}
 
-status, said = called(["rt", "staticlib", "boundary"])
+status, said = called(["sh", "tools/build", "boundary"])
 tally.group("the static library is proved and built", [0], [status])
 if status:
     print(said[-2000:])

@@ -55,7 +55,7 @@ def tried(name):
         if source.count(old) != 1:
             return f"{name}: the old text stands {source.count(old)} times in {field(text, 'file')}"
         open(path, "w", encoding="utf-8").write(source.replace(old, new))
-        run = subprocess.run(["rt", "check", crate], cwd=where, capture_output=True, text=True, errors="replace", env={**os.environ, "RT_CUT": "0"})
+        run = subprocess.run(["rt", "check"], cwd=os.path.join(where, "crates", crate), capture_output=True, text=True, errors="replace", env={**os.environ, "RT_CUT": "0"})
         said = run.stdout + run.stderr
         if run.returncode == 0:
             return f"{name}: not refused"

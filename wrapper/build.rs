@@ -10,7 +10,7 @@ fn main() {
         None => Path::new(env!("CARGO_MANIFEST_DIR")).join("../target/staticlib"),
     };
     let archive = folder.join("libboundary.a");
-    assert!(archive.is_file(), "no {}: run `rt staticlib boundary`", archive.display());
+    assert!(archive.is_file(), "no {}: run `sh tools/build boundary`", archive.display());
     println!("cargo:rerun-if-changed={}", archive.display());
     println!("cargo:rustc-link-search=native={}", folder.display());
     println!("cargo:rustc-link-lib=static=boundary");

@@ -151,6 +151,6 @@ def smallest_difference(found, one=library, two=other, seconds=60):
 def need_programs(build):
     """Ends the run where one of the two programs is not there."""
     if not os.path.exists(library[0]):
-        sys.exit("target/bin/judge is not there: `rt check judge` proves and builds it")
+        sys.exit("target/bin/judge is not there: `sh tools/build judge` proves and builds it")
     if not build():
         sys.exit("the second program cannot be built: cargo is needed")

@@ -4,7 +4,7 @@
 //! [`Room`] holds the rows that a call works in. Its calls answer a [`Tree`] with its [`Counts`], or a [`Refusal`]. [`rows`] has the same
 //! calls over rows that you lend yourself.
 //!
-//! It links libboundary.a, which `rt staticlib boundary` writes for x86-64 Linux: from the repository's target/staticlib, or from the folder
+//! It links libboundary.a, which `sh tools/build boundary` writes for x86-64 Linux: from the repository's target/staticlib, or from the folder
 //! that the environment variable BLENKYSNOW_LIB names when it is built.
 //!
 //! ```
