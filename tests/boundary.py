@@ -122,7 +122,9 @@ tally.group("the example's trees as the judge makes them", [(0, shown)], [drawn]
 names = declared()
 found = examples()
 tally.group("each function of the header has an example", sorted(names), sorted(found))
-exported = set(re.findall(r'^pub extern "C" fn (\w+)', text("crates/boundary/src/lib.rt"), re.M))
+exported = set(re.findall(r'^pub extern "C" fn (\w+)', text("crates/boundary_c/src/lib.rt"), re.M))
+library = set(re.findall(r'^pub extern "C" fn (\w+)', text("crates/boundary/src/lib.rt"), re.M))
+tally.group("the static library exports what the crate boundary has", sorted(library), sorted(exported))
 tally.group("the header declares what the crate exports", sorted(exported), sorted(names))
 tally.group("so does the wrapper", sorted(exported), sorted(set(re.findall(r"\bfn (blenkysnow_\w+)", text("wrapper/src/boundary.rs")))))
 sources = {name: written(name + ".c", program) for name, (program, _) in found.items()}
