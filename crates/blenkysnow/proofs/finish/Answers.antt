@@ -3,6 +3,7 @@ use mathlib.Core.Path.{refl, ap, ◌∙◌}
 use Prim.Native.Nat.{◌≤◌, ◌<◌}
 use native.Mathlib.Omega.{arith}
 use lib.ListN.{length}
+use borrow.Author.Rules.{rules}
 use Rattle.definitions.specs.Answers as Answers
 use Rattle.answers.specs.declared.Answer.{Answer}
 use Rattle.reading.specs.Fresh.{told}
@@ -12,7 +13,7 @@ use Rattle.blenkysnow.proofs.finish.Goals.{Then-m-gt2048}
 
 -- a refusal with the room to clear
 no : (c : Then-m-gt2048) → let a = c.args in (2049 < a.m) × (a.m ≤ 2054) × (16384 ≤ length a.room.now)
-no c = handed_no c.requires c.if-m-eq2049.false c.if-m-gt2048.true
+no c = handed_no c.requires (search rules) c.if-m-gt2048.true
 
 pub returns-then-m-eq2049 : goal.returns-then-m-eq2049
 returns-then-m-eq2049 c = record { too_small = λ e. refl; refuses = λ h. absurd (let e = c.if-m-eq2049.true in omega arith); reads = λ h. absurd (let e = c.if-m-eq2049.true in omega arith) }

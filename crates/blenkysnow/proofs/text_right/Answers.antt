@@ -16,6 +16,4 @@ returns-then-n-gt2048 c =
 
 pub returns : goal.returns
 returns c =
-    let z = c.if-n-gt2048.false in
-    let h = c.if-first-eq0.false in
     says_as c.codes_known.ensures (in_order _ _ _ (omega arith) (omega arith)) (knowns _ _ _)

@@ -23,7 +23,6 @@ returns-then-put-n c =
 pub returns : goal.returns
 returns c =
     let a = c.if-w-n.false in
-    let b = c.if-w-put.false in
     let d = c.if-put-n.false in
     let p = c.requires in
     says_as c.codes_known.ensures (λ k. record { within = a; used = omega arith; few = omega arith; known = k }) (λ R. R.known)

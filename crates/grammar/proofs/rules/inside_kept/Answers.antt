@@ -25,7 +25,7 @@ returns-then-low-eq0 c =
 pub loop-k-preserved : goal.loop-k-preserved
 loop-k-preserved c =
     let x = c.symbol_at-low.ensures in
-    (search rules, search rules, omega arith, below_more _ _ c.loop-k.invariant.3 (low_rule _ _ x.0 x.1.0 c.if-low-eq0.false))
+    (search rules, search rules, omega arith, below_more _ _ c.loop-k.invariant.3 (low_rule _ _ x.0 x.1.0 (search rules)))
 
 pub returns : goal.returns
 returns c = says_yes (λ k h. c.loop-k.invariant.3 k (omega arith))
