@@ -3,3 +3,5 @@
 pub mod Sizes
 pub mod Places
 pub mod Within
+pub mod Once
+pub mod Tests

@@ -10,20 +10,6 @@ use terminals::Terminals;
 
 // ---- one byte, two and eight, high first
 
-// A byte as an index.
-pub fn wide(x: u8) -> usize
-    ensures { (result ≡ x) × (result < 256) }
-{
-    x as usize
-}
-
-// A byte as a part of eight.
-fn long(x: u8) -> u64
-    ensures { (result ≡ x) × (result < 256) }
-{
-    x as u64
-}
-
 // The byte at place i.
 pub fn byte(t: &[u8], i: usize) -> u8
     requires { i < length t.now }
@@ -37,32 +23,34 @@ pub fn word(t: &[u8], i: usize) -> u32
     requires { i + 2 ≤ length t.now }
     ensures { (result ≡ word t.now i) × (result < 65536) }
 {
-    (wide(t[i]) * 256 + wide(t[i + 1])) as u32
+    u32::from(u16::from_be_bytes([t[i], t[i + 1]]))
 }
 
-// The eight bytes at place i. Each byte has its worth, 2^56 down to 1, in one sum: so written it is compiled to one load.
+// The eight bytes at place i. So written they are compiled to one load.
 pub fn eight(t: &[u8], i: usize) -> u64
     requires { i + 8 ≤ length t.now }
     ensures { result ≡ eight t.now i }
 {
-    let k = i + 2;
-    let m = i + 4;
-    let n = i + 6;
-    let high = long(t[i]) * 72057594037927936 + long(t[i + 1]) * 281474976710656;
-    let next = long(t[k]) * 1099511627776 + long(t[k + 1]) * 4294967296;
-    let third = long(t[m]) * 16777216 + long(t[m + 1]) * 65536;
-    let low = long(t[n]) * 256 + long(t[n + 1]);
-    high + next + third + low
+    u64::from_be_bytes([
+        t[i],
+        t[i + 1],
+        t[i + 2],
+        t[i + 3],
+        t[i + 4],
+        t[i + 5],
+        t[i + 6],
+        t[i + 7],
+    ])
 }
 
-// ---- the head
+// ---- the head. Here and below each part has a function by its own name: one function that takes the place would say less
 
 // How many terminals the table has.
 pub fn terminals_of(t: &[u8]) -> usize
     requires { 9 ≤ length t.now }
     ensures { (result ≡ T t.now) × (result < 256) }
 {
-    wide(t[5])
+    usize::from(t[5])
 }
 
 // How many nonterminals it has.
@@ -70,7 +58,7 @@ pub fn nonterminals_of(t: &[u8]) -> usize
     requires { 9 ≤ length t.now }
     ensures { (result ≡ N t.now) × (result < 256) }
 {
-    wide(t[6])
+    usize::from(t[6])
 }
 
 // How many productions it has.
@@ -78,7 +66,7 @@ pub fn productions_of(t: &[u8]) -> usize
     requires { 9 ≤ length t.now }
     ensures { (result ≡ P t.now) × (result < 256) }
 {
-    wide(t[7])
+    usize::from(t[7])
 }
 
 // How many states it has.
@@ -86,7 +74,7 @@ pub fn states_of(t: &[u8]) -> usize
     requires { 9 ≤ length t.now }
     ensures { (result ≡ S t.now) × (result < 256) }
 {
-    wide(t[8])
+    usize::from(t[8])
 }
 
 // ---- productions
@@ -107,7 +95,7 @@ pub fn len(t: &[u8], p: usize) -> u8
     t[10 + 10 * p]
 }
 
-// Symbol k of its right side: a terminal, or 128 + a nonterminal.
+// Symbol k of its right side, as document 01's sheet has it: a terminal, or 128 + a nonterminal.
 pub fn symbol(t: &[u8], p: usize, k: usize) -> u8
     requires { (9 + 10 * p + 10 ≤ length t.now) × (k < 8) }
     ensures { result ≡ symbol t.now p k }
@@ -151,7 +139,7 @@ pub fn items_at(t: &[u8]) -> usize
 
 // ---- actions and gotos
 
-// The action word of state s on terminal a: 0 error, 1 accept, 256 + s shift to s, 512 + p reduce by p.
+// The action word of state s on terminal a, as document 01's sheet has it: 0 error, 1 accept, 256 + s shift to s, 512 + p reduce by p.
 pub fn action(t: &[u8], s: usize, a: usize) -> u32
     requires { action_at t.now s a + 2 ≤ length t.now }
     ensures { (result ≡ action t.now s a) × (result < 65536) }
@@ -159,7 +147,7 @@ pub fn action(t: &[u8], s: usize, a: usize) -> u32
     word(t, actions_at(t) + 2 * (s * terminals_of(t) + a))
 }
 
-// The goto byte of state s on nonterminal n: a state, or 255 for none.
+// The goto byte of state s on nonterminal n, as document 01's sheet has it: a state, or 255 for none.
 pub fn goto_byte(t: &[u8], s: usize, n: usize) -> u8
     requires { goto_at t.now s n + 1 ≤ length t.now }
     ensures { result ≡ goto t.now s n }
@@ -206,5 +194,5 @@ pub fn ahead(t: &[u8], at: usize) -> Terminals
     requires { at + 10 ≤ length t.now }
     ensures { result.bits ≡ eight t.now (at + 2) }
 {
-    Terminals::of(eight(t, at + 2))
+    Terminals::from(eight(t, at + 2))
 }

@@ -1,8 +1,9 @@
 -- What a set of one, a join, a part and an empty set hold, by the definitions' `Holds`, beside the number that each is. The laws
 -- say that the numbers hold exactly that, and that two numbers that hold the same are equal.
-use Rattle.std.specs.Prelude.{◌≡◌, refl, Bool, true, false, ◌⊎◌, ◌↔◌, ℕ, zero, suc, ◌+◌, ◌*◌, ◌/◌, ◌%◌, ◌^◌, ◌<◌, ltb}
-use Rattle.std.proofs.Common.{ap, sym, subst, ◌∙◌, inl, inr, mod-lt, div-one, div-add-mod', div-lt_iff_lt-mul, pow-suc, lt_of_lt_of_le, arith, pow_pos, pow_mono, shr-shr, shr_lt, ltb-true, ltb-false}
+use Rattle.std.specs.Prelude.{◌≡◌, refl, Bool, true, false, ◌⊎◌, ◌↔◌, ℕ, zero, suc, ◌*◌, ◌/◌, ◌%◌, ◌^◌, ◌<◌, ltb}
+use Rattle.std.proofs.Common.{ap, subst, inl, inr, mod-lt, div-lt_iff_lt-mul, lt_of_lt_of_le, arith, pow_pos, pow_mono, ltb-true, ltb-false}
 use Rattle.std.proofs.Math.Nat.{div-eq_of_lt}
+use Rattle.std.proofs.lemmas.Nat.Bits.{same_from_bits}
 use Rattle.std.specs.Int.Bits.{bit_or}
 use Rattle.definitions.specs.States.{Holds}
 use Rattle.theory.specs.Check.SetLaws.{Held, says_holds, says_one, says_join, says_empty}
@@ -54,23 +55,6 @@ join_is x y =
 abbrev bit : ℕ → ℕ → ℕ
 bit x a = x / 2 ^ a % 2
 
-bit_half : (x a : ℕ) → bit (x / 2) a ≡ bit x (1 + a)
-bit_half x a = ap (λ (n : ℕ). n % 2) (shr-shr x 1 a)
-
-half : (k x : ℕ) → x < 2 ^ suc k → x / 2 < 2 ^ k
-half k x h = shr_lt k 1 (subst (λ (n : ℕ). x < 2 ^ n) (omega arith) h)
-
-by_bits : (k x y : ℕ) → x < 2 ^ k → y < 2 ^ k → ((a : ℕ) → bit x a ≡ bit y a) → x ≡ y
-by_bits zero x y hx hy f = omega arith
-by_bits (suc k) x y hx hy f =
-    let h : x / 2 ≡ y / 2 = by_bits k (x / 2) (y / 2) (half k x hx) (half k y hy) (λ a. bit_half x a ∙ f (1 + a) ∙ sym (bit_half y a)) in
-    let l : x % 2 ≡ y % 2 = simp div-one at (f 0) in
-    sym (div-add-mod' x 2) ∙ ap (λ (n : ℕ). n * 2 + x % 2) h ∙ ap (λ (n : ℕ). y / 2 * 2 + n) l ∙ div-add-mod' y 2
-
-below_pow : (x : ℕ) → x < 2 ^ x
-below_pow zero = omega arith
-below_pow (suc x) = omega (arith, below_pow x, pow-suc 2 x)
-
 same_bit : (x y : ℕ) → x < 2 → y < 2 → (x ≡ 1 → y ≡ 1) → (y ≡ 1 → x ≡ 1) → x ≡ y
 same_bit zero zero hx hy f g = refl
 same_bit zero (suc y) hx hy f g = let e : ◌≡◌ {A = ℕ} 0 1 = g (omega arith) in absurd (omega arith)
@@ -78,7 +62,7 @@ same_bit (suc x) y hx hy f g = let e : y ≡ 1 = f (omega arith) in omega arith
 
 pub same : (x y : ℕ) → Within x y → Within y x → x ≡ y
 same x y f g =
-    by_bits (x + y) x y (lt_of_lt_of_le (below_pow x) (pow_mono (omega arith))) (lt_of_lt_of_le (below_pow y) (pow_mono (omega arith)))
+    same_from_bits x y
     (λ a. same_bit (bit x a) (bit y a) (mod-lt (x / 2 ^ a) (omega arith)) (mod-lt (y / 2 ^ a) (omega arith)) (f a) (g a))
 
 -- ---- the tests

@@ -8,22 +8,24 @@ ghost use Rattle.theory.specs.Check.Says.{Says};
 ghost use Rattle.terminals.specs.Members.{One, Join, Within, Empty};
 
 // A set of terminals below 64.
-#[derive(Clone, Copy)]
+#[derive(Clone, Copy, PartialEq, Eq)]
 pub struct Terminals {
     // the worths of its terminals together
     pub bits: u64,
 }
 
+// The set with these worths.
+impl From<u64> for Terminals {
+    ghost from_gives = { λ bits r. r.bits ≡ bits };
+
+    fn from(bits: u64) -> Terminals {
+        Terminals { bits }
+    }
+}
+
 impl Terminals {
     // The set that holds nothing.
     pub const EMPTY: Terminals = Terminals { bits: 0 };
-
-    // The set with these worths.
-    pub fn of(bits: u64) -> Terminals
-        ensures { result.bits ≡ bits }
-    {
-        Terminals { bits: bits }
-    }
 
     // The set of one.
     pub fn one(a: u8) -> Terminals
@@ -64,20 +66,10 @@ impl Terminals {
         self.bits == 0
     }
 
-    // Do two sets hold the same?
-    pub fn equals(self, other: Terminals) -> bool
-        ensures { Says result (self.bits ≡ other.bits) }
-    {
-        self.bits == other.bits
-    }
-
     // Is all that the set holds below n?
     pub fn below(self, n: u8) -> bool
         ensures { Says result (self.bits < 2 ^ n) }
     {
-        if n >= 64 {
-            return true;
-        }
-        (self.bits >> n) == 0
+        n >= 64 || self.bits >> n == 0
     }
 }
