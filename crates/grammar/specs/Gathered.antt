@@ -1,8 +1,9 @@
 -- What the walk over a production's symbols has gathered: it goes on where a symbol derives the empty string, and stops where one
 -- does not. And what it gathers by the sets of FIRST.
-use Rattle.std.specs.Prelude.{◌≡◌, refl, Bool, true, false, List, ◌⊎◌, ◌↔◌, ℕ, ◌+◌, ◌-◌, ◌^◌, ◌≤◌, ◌<◌, ltb, get_or}
+use Rattle.std.specs.Prelude.{◌≡◌, refl, Bool, true, false, List, ◌⊎◌, ◌↔◌, ℕ, ◌+◌, ◌-◌, ◌^◌, ◌≤◌, ◌<◌, ltb}
 use Rattle.std.proofs.Common.{sym, subst, inl, inr, arith, ltb-true, ltb-false}
 use Rattle.std.proofs.lemmas.Bool.{false≢true}
+use Rattle.terminals.specs.declared.Terminals.{Terminals}
 use Rattle.definitions.specs.Sheet.{T, P, len, symbol, Layout}
 use Rattle.definitions.specs.States.{Holds}
 use Rattle.definitions.specs.Grammar.{Null, Begins, Leads, InFirst}
@@ -11,18 +12,18 @@ use Rattle.terminals.specs.Members.{Join, One, empty_is, held_below}
 use Rattle.grammar.specs.Productions.{terminal_known}
 use Rattle.grammar.specs.Sets.{some-held}
 use Rattle.grammar.specs.Least.{Passes, Nulls}
-use Rattle.grammar.specs.First.{Firsts, FirstOf, Starts, Reach, Reaches, Empties, Gathers}
+use Rattle.grammar.specs.First.{set_at, Firsts, FirstOf, Starts, Reach, Reaches, Empties, Gathers}
 
 -- ---- one symbol
 
-pub starts_terminal : (fs : List ℕ) (x r : ℕ) → x < 128 → One x r → (b : ℕ) → Holds r b ↔ Starts fs b x
+pub starts_terminal : (fs : List Terminals) (x r : ℕ) → x < 128 → One x r → (b : ℕ) → Holds r b ↔ Starts fs b x
 starts_terminal fs x r l o b = (λ h. inl (l, (o.holds b).0 h), back)
   where
     back : Starts fs b x → Holds r b
     back (inl h) = (o.holds b).1 h.1
     back (inr h) = let a = h.0 in absurd (omega arith)
 
-pub starts_nonterminal : (fs : List ℕ) (x r : ℕ) → 128 ≤ x → r ≡ get_or fs (x - 128) 0 → (b : ℕ) → Holds r b ↔ Starts fs b x
+pub starts_nonterminal : (fs : List Terminals) (x r : ℕ) → 128 ≤ x → r ≡ set_at fs (x - 128) → (b : ℕ) → Holds r b ↔ Starts fs b x
 starts_nonterminal fs x r l e b = (λ h. inr (l, subst (λ (n : ℕ). Holds n b) e h), back)
   where
     back : Starts fs b x → Holds r b
@@ -40,12 +41,12 @@ says_null t set x n s = says_as s to (λ h. inr (h.0, (n (x - 128)).1 h.1))
 -- ---- the walk
 
 -- r holds what the symbols from place d up to k start with, and all of those derive the empty string
-pub record Seen (t fs : List ℕ) (p d k r : ℕ) : Type 0 where
+pub record Seen (t : List ℕ) (fs : List Terminals) (p d k r : ℕ) : Type 0 where
   pub from : d ≤ k
   pub nulls : (j : ℕ) → j < k → d ≤ j → Null t (symbol t p j)
   pub holds : (b : ℕ) → Holds r b ↔ ((i : ℕ) × (i < k) × Reach t fs b p d i)
 
-module _ (t fs : List ℕ) (p d : ℕ) where
+module _ (t : List ℕ) (fs : List Terminals) (p d : ℕ) where
   pub seen_none : Seen t fs p d d 0
   seen_none =
       record {
@@ -106,7 +107,7 @@ module _ (t fs : List ℕ) (p d : ℕ) where
 
 -- ---- by the sets of FIRST
 
-module _ (t fs : List ℕ) (l : Layout t) (f : Firsts t fs) (p d : ℕ) (h : p < P t) where
+module _ (t : List ℕ) (fs : List Terminals) (l : Layout t) (f : Firsts t fs) (p d : ℕ) (h : p < P t) where
   -- what leads is reached, and what is reached leads
   reached : (b k : ℕ) → b < T t → Leads t b p d k → Reach t fs b p d k
   reached b k m x = record { from = x.from; starts = go x.it; before = x.before }

@@ -6,3 +6,4 @@ pub mod Rules
 pub mod First
 pub mod Gathered
 pub mod Turns
+pub mod Known

@@ -1,35 +1,34 @@
 -- Document 01: "A production is thus one row of eight symbols". What the rows, the lengths and the left sides hold of a sheet.
-use Rattle.std.specs.Prelude.{◌≡◌, refl, List, [], ◌∷◌, ℕ, zero, suc, ◌+◌, ◌*◌, ◌≤◌, ◌<◌, length, get_or, set}
-use Rattle.std.proofs.Math.Path.{subst⁻¹}
-use Rattle.std.proofs.Common.{inl, inr, add-zero, arith, below_more, get_or-set_same, get_or-set_other}
-use Rattle.definitions.specs.Sheet.{byte, T, P, left, len, symbol, IsSymbol, Layout}
+use Rattle.std.specs.Prelude.{◌≡◌, List, ℕ, ◌+◌, ◌-◌, ◌≤◌, ◌<◌, length, get_or, take, drop}
+use Rattle.std.proofs.lemmas.List.{get_or-take, get_or-drop, length-take-le, length-drop}
+use Rattle.std.proofs.Common.{◌∙◌, inl, inr, arith}
+use Rattle.grammar.specs.declared.production.Production.{Production}
+use Rattle.definitions.specs.Sheet.{T, P, left, len, symbol, IsSymbol, Layout}
 
 -- x may be a symbol: a terminal below 64, or 128 + a nonterminal below 64
 abbrev pub Small : ℕ → Type 0
 Small x = (x < 192) × (x < 128 → x < 64)
 
--- the row is that of production p
+-- symbol k of eight by value
 abbrev pub Row : List ℕ → ℕ → List ℕ → Type 0
 Row t p row = (k : ℕ) → k < 8 → get_or row k 0 ≡ symbol t p k
 
--- symbol k of row p
-abbrev pub cell : List (List ℕ) → ℕ → ℕ → ℕ
-cell rows p k = get_or (get_or rows p []) k 0
+-- the value is production p of the sheet
+pub record Made (t : List ℕ) (p : ℕ) (v : Production) : Type 0 where
+  pub side : v.left ≡ left t p
+  pub size : v.len ≡ len t p
+  pub eight : length v.symbols ≡ 8
+  pub row : Row t p v.symbols
 
-abbrev pub Rows : List ℕ → List (List ℕ) → Type 0
-Rows t rows = (p : ℕ) → p < P t → (k : ℕ) → k < 8 → cell rows p k ≡ symbol t p k
+-- the values are the productions of the sheet; `other` is what `get_or` would answer past the last value, where no production is
+abbrev pub Held : List ℕ → List Production → Type 0
+Held t ps = (p : ℕ) (other : Production) → p < P t → Made t p (get_or ps p other)
 
-abbrev pub Lens : List ℕ → List ℕ → Type 0
-Lens t lens = (p : ℕ) → p < P t → get_or lens p 0 ≡ len t p
-
-abbrev pub Lefts : List ℕ → List ℕ → Type 0
-Lefts t lefts = (p : ℕ) → p < P t → get_or lefts p 0 ≡ left t p
-
--- the right sides of a sheet well laid out, as they are lent
-pub record Rights (t : List ℕ) (rows : List (List ℕ)) (lens : List ℕ) : Type 0 where
-  pub layout : Layout t
-  pub symbols : Rows t rows
-  pub lengths : Lens t lens
+-- the list is the right side of production p
+pub record Right (t : List ℕ) (p : ℕ) (xs : List ℕ) : Type 0 where
+  pub size : length xs ≡ len t p
+  pub each : (k : ℕ) → k < len t p → get_or xs k 0 ≡ symbol t p k
+  pub small : (k : ℕ) → k < len t p → Small (get_or xs k 0)
 
 -- ---- what a sheet well laid out says of them
 
@@ -58,23 +57,15 @@ module _ (t : List ℕ) (l : Layout t) where
       go (inl e) = omega (arith, l.head.terminals)
       go (inr e) = omega (arith, l.head.nonterminals)
 
--- the row as the code writes it down
-pub row_is : (t : List ℕ) (p : ℕ)
-    → Row t p (byte t (11 + 10 * p) ∷ symbol t p 1 ∷ symbol t p 2 ∷ symbol t p 3 ∷ symbol t p 4 ∷ symbol t p 5 ∷ symbol t p 6 ∷ symbol t p 7 ∷ [])
-row_is t p zero h = rw add-zero
-row_is t p (suc zero) h = refl
-row_is t p (suc (suc zero)) h = refl
-row_is t p (suc (suc (suc zero))) h = refl
-row_is t p (suc (suc (suc (suc zero)))) h = refl
-row_is t p (suc (suc (suc (suc (suc zero))))) h = refl
-row_is t p (suc (suc (suc (suc (suc (suc zero)))))) h = refl
-row_is t p (suc (suc (suc (suc (suc (suc (suc zero))))))) h = refl
-row_is t p (suc (suc (suc (suc (suc (suc (suc (suc k)))))))) h = absurd (omega arith)
+-- what is left of a right side from place d on
+module _ (t : List ℕ) (p d : ℕ) (xs : List ℕ) (r : Right t p xs) (h : d ≤ len t p) where
+  pub rest_long : length (take (length xs - d) (drop d xs)) ≡ len t p - d
+  rest_long = take_long ∙ (let e = r.size in omega arith)
+    where
+      take_long : length (take (length xs - d) (drop d xs)) ≡ length xs - d
+      take_long = length-take-le (length xs - d) (drop d xs) (omega (arith, length-drop d xs))
 
--- one more element of a list that is filled from the front
-pub fill_more : {A : Type 0} (d : A) (Q : ℕ → A → Type 0) (xs : List A) (i : ℕ) (v : A) → i < length xs → Q i v
-    → ((k : ℕ) → k < i → Q k (get_or xs k d)) → (k : ℕ) → k < i + 1 → Q k (get_or (set xs i v) k d)
-fill_more d Q xs i v h q f =
-    below_more _ _
-    (λ k l. subst⁻¹ (Q k) (get_or-set_other xs i k v d (λ e. omega arith)) (f k l))
-    (subst⁻¹ (Q i) (get_or-set_same xs i v d h) q)
+  pub rest_at : (i : ℕ) → i < length (take (length xs - d) (drop d xs)) → get_or (take (length xs - d) (drop d xs)) i 0 ≡ symbol t p (d + i)
+  rest_at i k =
+      get_or-take (length xs - d) (drop d xs) i 0 (omega (arith, rest_long, r.size))
+      ∙ get_or-drop d xs i 0 ∙ r.each (d + i) (omega (arith, rest_long))

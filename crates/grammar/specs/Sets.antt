@@ -1,9 +1,10 @@
 -- Sets as numbers: a larger set is a larger number, one that is not empty holds something, and 2^n - 1 is the set of all below n.
 use Rattle.std.specs.Prelude.{◌≡◌, refl, Bool, true, false, ◌↔◌, ℕ, zero, suc, ◌+◌, ◌-◌, ◌/◌, ◌%◌, ◌^◌, ◌≤◌, ◌<◌, eqb}
-use Rattle.std.proofs.Common.{subst, ap, ◌∙◌, div-one, pow-suc, arith, pow_pos, shr-shr, eqb-true}
+use Rattle.std.proofs.Common.{subst, ap, ◌∙◌, div-one, pow-suc, arith, shr-shr, eqb-true}
 use Rattle.std.specs.Int.Bits.{or_add_and}
 use Rattle.std.proofs.lemmas.Nat.{and_le_r}
-use Rattle.std.proofs.Math.Pow.{ones_lt, ones_split, high}
+use Rattle.std.proofs.Math.Pow.{ones_lt}
+use Rattle.std.proofs.lemmas.Nat.Bits.{bit_at_ones, ones_shr}
 use Rattle.std.proofs.lemmas.Bool.{eqb-false}
 use Rattle.definitions.specs.States.{Holds}
 use Rattle.terminals.specs.Members.{Within, within_is, held_below}
@@ -36,21 +37,11 @@ some-held x = some-by x x (below_pow x)
 
 -- ---- all below n
 
-odd : (k : ℕ) → (2 ^ suc k - 1) % 2 ≡ 1
-odd k = omega (arith, pow-suc 2 k, pow_pos k)
-
--- the ones of j + k without the last k
-ones_shift : (j k : ℕ) → (2 ^ (j + k) - 1) / 2 ^ k ≡ 2 ^ j - 1
-ones_shift j k = ap (λ (n : ℕ). n / 2 ^ k) (ones_split j k) ∙ high (2 ^ j - 1) k (ones_lt k)
-
 pub all_holds : (n b : ℕ) → Holds (2 ^ n - 1) b ↔ (b < n)
-all_holds n b = (held_below n (2 ^ n - 1) b (ones_lt n), λ h. back h (omega arith))
-  where
-    back : b < n → suc (n - suc b) + b ≡ n → Holds (2 ^ n - 1) b
-    back h e = subst (λ (m : ℕ). (2 ^ m - 1) / 2 ^ b % 2 ≡ 1) e (ap (λ (m : ℕ). m % 2) (ones_shift (suc (n - suc b)) b) ∙ odd (n - suc b))
+all_holds n b = (held_below n (2 ^ n - 1) b (ones_lt n), bit_at_ones n b)
 
 -- as the code makes it, from 64 ones
 pub all_is : (n : ℕ) → n ≤ 64 → 18446744073709551615 / 2 ^ (64 - n) ≡ 2 ^ n - 1
 all_is n h =
-    let e : n + (64 - n) ≡ 64 = omega arith in
-    subst (λ (m : ℕ). (2 ^ m - 1) / 2 ^ (64 - n) ≡ 2 ^ n - 1) e (ones_shift n (64 - n))
+    let e : 64 - (64 - n) ≡ n = omega arith in
+    ones_shr 64 (64 - n) (omega arith) ∙ ap (λ (m : ℕ). 2 ^ m - 1) e

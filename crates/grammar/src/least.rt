@@ -5,108 +5,60 @@ ghost use Rattle.definitions.specs.Sheet.{P};
 ghost use Rattle.definitions.specs.States.{Holds};
 ghost use Rattle.definitions.specs.Grammar.{Derives};
 ghost use Rattle.theory.specs.Check.Says.{Says};
-ghost use Rattle.grammar.specs.Productions.{Rights, Lefts};
 ghost use Rattle.grammar.specs.Least.{Passes, Ready, Least, Round, Nulls};
 
-use crate::productions;
+use crate::productions::Grammar;
 use terminals::Terminals;
 
-// Does the symbol x pass: a terminal where `tokens`, a nonterminal where it is in the set?
+// Does the symbol x pass: a terminal where `tokens`, a nonterminal where it is in the set? `tokens` is the answer for every terminal,
+// so it picks no step.
 pub fn passes(set: Terminals, tokens: bool, x: u8) -> bool
     requires { x < 192 }
     ensures { Says result (Passes tokens set.bits x) }
 {
-    if x < 128 {
-        return tokens;
-    }
-    set.holds(x - 128)
+    if x < 128 { tokens } else { set.holds(x - 128) }
 }
 
 // Does every symbol of production p pass?
-fn ready(
-    t: &[u8],
-    rows: &[[u8; 8]; 200],
-    lens: &[u8; 200],
-    set: Terminals,
-    tokens: bool,
-    p: usize,
-) -> bool
-    requires rights { Rights t.now rows.now lens.now }
-    requires p_bound { p < P t.now }
-    ensures { Says result (Ready t.now tokens set.bits p) }
+fn ready(grammar: &Grammar<'_>, set: Terminals, tokens: bool, p: usize) -> bool
+    requires { p < P grammar.now.sheet.now }
+    ensures { Says result (Ready grammar.now.sheet.now tokens set.bits p) }
 {
-    let n = productions::len_at(t, lens, p);
-    for k in 0..n {
-        let x = productions::symbol_at(t, rows, p, k);
-        if !passes(set, tokens, x) {
-            return false;
-        }
-    }
-    true
+    grammar.right(p).iter().all(|x| passes(set, tokens, *x))
 }
 
 // The set with the left side of production p, where every symbol of it passes.
-fn grown(
-    t: &[u8],
-    rows: &[[u8; 8]; 200],
-    lens: &[u8; 200],
-    lefts: &[u8; 200],
-    set: Terminals,
-    tokens: bool,
-    p: usize,
-) -> Terminals
-    requires rights { Rights t.now rows.now lens.now }
-    requires lefts { Lefts t.now lefts.now }
-    requires p_bound { p < P t.now }
-    ensures { Round t.now tokens p (p + 1) set.bits result.bits }
+fn grown(grammar: &Grammar<'_>, set: Terminals, tokens: bool, p: usize) -> Terminals
+    requires { p < P grammar.now.sheet.now }
+    ensures { Round grammar.now.sheet.now tokens p (p + 1) set.bits result.bits }
 {
-    let n = productions::left_at(t, lefts, p);
-    if set.holds(n) {
-        return set;
+    let n = grammar.left(p);
+    if !set.holds(n) && ready(grammar, set, tokens, p) {
+        set.join(Terminals::one(n))
+    } else {
+        set
     }
-    if ready(t, rows, lens, set, tokens, p) {
-        return set.join(Terminals::one(n));
-    }
-    set
 }
 
 // One round: the set grown by each production in turn.
-fn round(
-    t: &[u8],
-    rows: &[[u8; 8]; 200],
-    lens: &[u8; 200],
-    lefts: &[u8; 200],
-    set: Terminals,
-    tokens: bool,
-) -> Terminals
-    requires rights { Rights t.now rows.now lens.now }
-    requires lefts { Lefts t.now lefts.now }
-    ensures { Round t.now tokens 0 (P t.now) set.bits result.bits }
+fn round(grammar: &Grammar<'_>, set: Terminals, tokens: bool) -> Terminals
+    ensures { Round grammar.now.sheet.now tokens 0 (P grammar.now.sheet.now) set.bits result.bits }
 {
     let mut next = set;
-    let n = sheet::productions_of(t);
-    for p in 0..n {
-        next = grown(t, rows, lens, lefts, next, tokens, p);
+    for p in 0..grammar.count() {
+        next = grown(grammar, next, tokens, p);
     }
     next
 }
 
 // The least set that holds each left side of a production whose symbols all pass.
-fn least(
-    t: &[u8],
-    rows: &[[u8; 8]; 200],
-    lens: &[u8; 200],
-    lefts: &[u8; 200],
-    tokens: bool,
-) -> Terminals
-    requires rights { Rights t.now rows.now lens.now }
-    requires lefts { Lefts t.now lefts.now }
-    ensures { (n : ℕ) → Holds result.bits n ↔ Least t.now tokens n }
+fn least(grammar: &Grammar<'_>, tokens: bool) -> Terminals
+    ensures { (n : ℕ) → Holds result.bits n ↔ Least grammar.now.sheet.now tokens n }
 {
     let mut set = Terminals::EMPTY;
     loop {
-        let next = round(t, rows, lens, lefts, set, tokens);
-        if next.equals(set) {
+        let next = round(grammar, set, tokens);
+        if next == set {
             return set;
         }
         set = next;
@@ -114,19 +66,15 @@ fn least(
 }
 
 // The nonterminals that derive some string of terminals.
-pub fn productive(t: &[u8], rows: &[[u8; 8]; 200], lens: &[u8; 200], lefts: &[u8; 200]) -> Terminals
-    requires rights { Rights t.now rows.now lens.now }
-    requires lefts { Lefts t.now lefts.now }
-    ensures { (n : ℕ) → Holds result.bits n ↔ Derives t.now n }
+pub fn productive(grammar: &Grammar<'_>) -> Terminals
+    ensures { (n : ℕ) → Holds result.bits n ↔ Derives grammar.now.sheet.now n }
 {
-    least(t, rows, lens, lefts, true)
+    least(grammar, true)
 }
 
 // The nonterminals that derive the empty string.
-pub fn nullable(t: &[u8], rows: &[[u8; 8]; 200], lens: &[u8; 200], lefts: &[u8; 200]) -> Terminals
-    requires rights { Rights t.now rows.now lens.now }
-    requires lefts { Lefts t.now lefts.now }
-    ensures { Nulls t.now result.bits }
+pub fn nullable(grammar: &Grammar<'_>) -> Terminals
+    ensures { Nulls grammar.now.sheet.now result.bits }
 {
-    least(t, rows, lens, lefts, false)
+    least(grammar, false)
 }

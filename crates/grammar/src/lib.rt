@@ -2,7 +2,10 @@
 // caller's judgement that the sheet is well laid out.
 #![tactic(auto)]
 
-// the productions: rows of eight symbols, lengths and left sides
+// one production by value
+pub mod production;
+
+// the grammar of a sheet: its productions by value, beside the sheet
 pub mod productions;
 
 // the nonterminals that derive some string, and those that derive the empty one

@@ -1,96 +1,86 @@
-// A sheet's productions by value: a row of eight symbols for each, beside their lengths and left sides. They are built once, and
-// lent by reference from there on.
+// The grammar of a sheet: its productions by value, beside the sheet. It is built once, and lent by reference from there on.
 ghost use Rattle.std.specs.Prelude.{◌≡◌, ◌+◌, ◌*◌, ◌≤◌, ◌<◌, length};
 ghost use Rattle.definitions.specs.Sheet.{P, left, len, symbol, Layout};
-ghost use Rattle.grammar.specs.Productions.{Small, Row, Rows, Lens, Lefts};
+ghost use Rattle.sheet.specs.Once.{Layout-prop};
+ghost use Rattle.grammar.specs.Productions.{Small, Made, Held, Right};
 
-// ---- built
+use crate::production::Production;
 
-// The eight symbols of production p.
-fn row_of(t: &[u8], p: usize) -> [u8; 8]
-    requires { 9 + 10 * p + 10 ≤ length t.now }
-    ensures { Row t.now p result }
-{
-    let b = 11 + 10 * p;
-    [
-        t[b],
-        t[b + 1],
-        t[b + 2],
-        t[b + 3],
-        t[b + 4],
-        t[b + 5],
-        t[b + 6],
-        t[b + 7],
-    ]
+// A sheet well laid out, and its productions by value. Memory is fixed: the values past the last production are NONE.
+#[derive(Drop)]
+pub struct Grammar<'a> {
+    pub sheet: &'a [u8],
+    pub productions: [Production; 200],
+    ghost laid: { Layout sheet.now } by { Layout-prop sheet.now },
+    ghost held: { Held sheet.now productions },
 }
 
-// The symbols of every production.
-pub fn rows_of(t: &[u8]) -> [[u8; 8]; 200]
-    requires { Layout t.now }
-    ensures { Rows t.now result }
+// Production p of a sheet.
+fn production_of(t: &[u8], p: usize) -> Production
+    requires within { 9 + 10 * p + 10 ≤ length t.now }
+    requires short { len t.now p ≤ 8 }
+    ensures { Made t.now p result }
 {
-    let mut rows = [[0u8; 8]; 200];
-    let n = sheet::productions_of(t);
-    for p in 0..n {
-        rows[p] = row_of(t, p);
+    let at = 11 + 10 * p;
+    let mut symbols = [0; 8];
+    symbols.copy_from_slice(&t[at..at + 8]);
+    Production {
+        left: sheet::left(t, p),
+        len: sheet::len(t, p),
+        symbols,
     }
-    rows
 }
 
-// The length of every production.
-pub fn lens_of(t: &[u8]) -> [u8; 200]
-    requires { Layout t.now }
-    ensures { Lens t.now result }
-{
-    let mut lens = [0u8; 200];
-    let n = sheet::productions_of(t);
-    for p in 0..n {
-        lens[p] = sheet::len(t, p);
+impl Grammar<'_> {
+    // The grammar of a sheet well laid out.
+    pub fn new(sheet: &[u8]) -> Grammar<'_>
+        requires { Layout sheet.now }
+        ensures { result.sheet.now ≡ sheet.now }
+    {
+        let mut productions = [Production::NONE; 200];
+        for p in 0..sheet::productions_of(sheet) {
+            productions[p] = production_of(sheet, p);
+        }
+        Grammar { sheet, productions }
     }
-    lens
-}
 
-// The left side of every production.
-pub fn lefts_of(t: &[u8]) -> [u8; 200]
-    requires { Layout t.now }
-    ensures { Lefts t.now result }
-{
-    let mut lefts = [0u8; 200];
-    let n = sheet::productions_of(t);
-    for p in 0..n {
-        lefts[p] = sheet::left(t, p);
+    // How many productions it has.
+    pub fn count(&self) -> usize
+        ensures { (result ≡ P self.now.sheet.now) × (result ≤ 200) }
+    {
+        sheet::productions_of(self.sheet)
     }
-    lefts
-}
 
-// ---- lent. The sheet is lent beside them for the contracts alone
+    // The left side of production p, a nonterminal.
+    pub fn left(&self, p: usize) -> u8
+        requires { p < P self.now.sheet.now }
+        ensures { (result ≡ left self.now.sheet.now p) × (result < 64) }
+    {
+        self.productions[p].left
+    }
 
-// Symbol k of production p.
-pub fn symbol_at(t: &[u8], rows: &[[u8; 8]; 200], p: usize, k: usize) -> u8
-    requires layout { Layout t.now }
-    requires rows { Rows t.now rows.now }
-    requires p_bound { (p < P t.now) × (k < len t.now p) }
-    ensures { (result ≡ symbol t.now p k) × Small result }
-{
-    rows[p][k]
-}
+    // The length of its right side.
+    pub fn len(&self, p: usize) -> usize
+        requires { p < P self.now.sheet.now }
+        ensures { (result ≡ len self.now.sheet.now p) × (result ≤ 8) }
+    {
+        usize::from(self.productions[p].len)
+    }
 
-// The length of production p.
-pub fn len_at(t: &[u8], lens: &[u8; 200], p: usize) -> usize
-    requires layout { Layout t.now }
-    requires lens { Lens t.now lens.now }
-    requires p_bound { p < P t.now }
-    ensures { (result ≡ len t.now p) × (result ≤ 8) }
-{
-    sheet::wide(lens[p])
-}
+    // Symbol k of its right side.
+    pub fn symbol(&self, p: usize, k: usize) -> u8
+        requires { (p < P self.now.sheet.now) × (k < len self.now.sheet.now p) }
+        ensures { (result ≡ symbol self.now.sheet.now p k) × Small result }
+    {
+        self.productions[p].symbols[k]
+    }
 
-// The left side of production p.
-pub fn left_at(t: &[u8], lefts: &[u8; 200], p: usize) -> u8
-    requires layout { Layout t.now }
-    requires lefts { Lefts t.now lefts.now }
-    requires p_bound { p < P t.now }
-    ensures { (result ≡ left t.now p) × (result < 64) }
-{
-    lefts[p]
+    // Its right side.
+    pub fn right(&self, p: usize) -> &[u8]
+        requires { p < P self.now.sheet.now }
+        ensures { Right self.now.sheet.now p result.now }
+    {
+        let productions = &self.productions;
+        productions[p].right()
+    }
 }
