@@ -1,129 +1,105 @@
--- The laws that the proofs share: tests of every number below a bound, one by one; cells counted in one run; items in order; and
--- that a part refused is the whole refused. Assumes nothing.
-use mathlib.Core.Path.{◌≡◌, refl, ap, subst, ◌∙◌}
-use mathlib.Core.Bool.{Bool, true, false, ◌&&◌, not}
+-- The laws that the proofs share: that a part refused is the whole refused; tests joined; what `all` says; cells counted in one run; and
+-- the walk over the states. Assumes nothing.
+use mathlib.Core.Path.{◌≡◌, refl, sym, ap, subst, ◌∙◌}
+use mathlib.Core.Bool.{Bool, true, false}
 use mathlib.Core.List.{List}
-use mathlib.Core.Logic.{◌⊎◌, inl, inr}
-use Prim.Native.Nat.{ℕ, zero, suc, ◌+◌, ◌-◌, ◌*◌, ◌/◌, ◌%◌, ◌^◌, ◌≤◌, ◌<◌}
-use native.Mathlib.Nat.{not-suc-le-zero, mul-zero, mod-lt, div-add-mod', div-lt_iff_lt-mul}
+use Prim.Native.Nat.{ℕ, zero, suc, ◌+◌, ◌-◌, ◌*◌, ◌/◌, ◌%◌, ◌≤◌, ◌<◌}
+use native.Mathlib.Nat.{zero-add, not-suc-le-zero, mul-zero, mod-lt, div-add-mod', div-lt_iff_lt-mul}
 use native.Mathlib.Omega.{arith}
-use lib.Dec.{ltb, leb, eqb}
-use lib.ListN.{length}
+use lib.Dec.{eqb}
+use lib.ListN.{length, get_or}
 use borrow.Author.Count.{below_more}
-use borrow.Author.Tests.{ltb-true, ltb-false, not-true, not-false}
-use Rattle.definitions.specs.Sheet.{byte, word, eight, T, N, P, left, len, symbol, S, items_at, state_at, items, count, item_at, prod, dot, ahead, Production, Item, Rises, State}
-use Rattle.theory.specs.Check.Says.{Says, says_no, refused, says_as, says_and, says_eq, says_lt, says_le, below}
+use Rattle.std.specs.Bool.{MatchBool}
+use Rattle.std.specs.declared.ops.Range.{Range}
+use Rattle.std.specs.Fn.{Called}
+use Rattle.std.specs.Iterator.{ChecksAll}
+use Rattle.std.specs.List.{range_with_len, AllWithin, HoldsAt}
+use Rattle.std.proofs.iter.Yields.{nat_range_steps}
+use Rattle.std.proofs.lemmas.Iterator.{YieldsList-from_range, cases_from_all}
+use Rattle.std.proofs.lemmas.List.FromFn.{length-range_with_len, get_or-range_with_len}
+use denote.Param.Members.{Mut}
+use Rattle.definitions.specs.Sheet.{word, N, left, len, symbol, S, items_at, state_at, items, count, Production, Item, Rises, State}
+use Rattle.theory.specs.Check.Says.{Says, says_yes, says_no, refused, says_as, says_eq}
 use Rattle.sheet.specs.Places.{items_next, count_at, next_at, items_rise, state_before}
-use Rattle.sheet.specs.Sizes.{Bytes, cell_within}
+use Rattle.sheet.specs.Sizes.{cell_within}
 use Rattle.layout.specs.Parts.{Placed, Fits, States}
 
 -- ---- refusals
 
 -- what has a part that is refused is refused
-pub part_refused : {b : Bool} {A B : Type 0} → Says b A → not b ≡ true → (B → A) → Says false B
-part_refused {b} x e f = says_no (λ h. refused x (not-true b e) (f h))
+pub part_refused : {a : Bool} {A B : Type 0} → Says a A → a ≡ false → (B → A) → Says a B
+part_refused x e f = rw e (says_no (λ h. refused x e (f h)))
 
--- a test that was not refused
-pub passed : {b : Bool} {A : Type 0} → Says b A → not b ≡ false → A
-passed {b} x e = x.to (not-false b e)
+-- ---- tests joined by `&&`: the second is made only where the first passed
 
--- ---- every number below a bound
+pub joined : {a b v : Bool} {A B : Type 0} → Says a A → a ≡ true → v ≡ b → Says b B → Says v (A × B)
+joined x t e y = says_as (rw e y) (λ h. (x.to t, h)) (λ h. h.1)
 
-pub none : {A : ℕ → Type 0} → Says true ((k : ℕ) → k < 0 → A k)
-none = record { to = λ e k h. absurd (not-suc-le-zero h); from = λ g. refl }
+pub stopped : {a v : Bool} {A B : Type 0} → Says a A → a ≡ false → v ≡ a → Says v (A × B)
+stopped x f e = rw (e, f) (says_no (λ h. refused x f h.0))
 
-pub one_more : {x y : Bool} {A : ℕ → Type 0} (i : ℕ) → Says x ((k : ℕ) → k < i → A k) → Says y (A i) →
-    Says (x && y) ((k : ℕ) → k < i + 1 → A k)
-one_more {A} i f a =
-    says_as (says_and f a) (λ h. below_more A i h.0 h.1) (λ g. (λ k h. g k (omega arith), g i (omega arith)))
+-- ---- `all` over a list, and over the numbers below a bound
 
-pub up_to : {b : Bool} {A : ℕ → Type 0} {m n : ℕ} → m ≡ n → Says b ((k : ℕ) → k < m → A k) → Says b ((k : ℕ) → k < n → A k)
-up_to e x = says_as x (λ f k h. f k (omega arith)) (λ f k h. f k (omega arith))
+-- what `all` says of a list, item by item
+module _ (A : ℕ → Type 0) (xs : List ℕ) where
+  says_listed : (b : Bool) → MatchBool b (AllWithin A xs 0 (length xs)) ((k : ℕ) × (k < length xs) × HoldsAt (λ x. A x → ⊥) xs k) →
+      Says b ((k : ℕ) → k < length xs → A (get_or xs k 0))
+  says_listed true h = says_yes (λ k l. h k 0 (omega arith) l)
+  says_listed false h = says_no (λ g. h.2 0 (g h.0 h.1))
+
+-- what `all` says of the numbers 0..m, where each of its calls says whether its own number is right
+pub says_each : {F : Type 0} {g : Mut F (ℕ × Unit {0}) Bool} {s u : Range ℕ} {f : F} {r : Bool} {A : ℕ → Type 0} (m : ℕ) {n : ℕ} → s ≡ record { start = 0; end = m } → m ≡ n →
+    ChecksAll nat_range_steps g s f r u → ((k : ℕ) (b : Bool) (q : F) → Called g f (k, tt) b q → (q ≡ f) × Says b (A k)) →
+    Says r ((k : ℕ) → k < n → A k)
+says_each {u = u} {f = f} {r = r} {A = A} m e z ran calls =
+    let many = length-range_with_len 0 m in
+    says_as
+    (says_listed A (range_with_len 0 m) r
+    (cases_from_all u f r A (λ k. A k → ⊥) ran (YieldsList-from_range 0 m m e (omega arith))
+    (λ k q c. let y = calls k true q c in (y.0, y.1.to refl)) (λ k q c. refused (calls k false q c).1 refl)))
+    (λ h k l. subst A (get_or-range_with_len 0 m k 0 (omega arith) ∙ zero-add k) (h k (omega (arith, many))))
+    (λ h k l. let o : k < m = omega (arith, many) in subst A (sym (get_or-range_with_len 0 m k 0 o ∙ zero-add k)) (h k (omega arith)))
 
 -- n rows of w cells, as one run
 some_wide : (n w k : ℕ) → k < n * w → 0 < w
 some_wide n zero k h = absurd (omega (arith, mul-zero n))
 some_wide n (suc w) k h = omega arith
 
-pub by_rows : (n w : ℕ) {b : Bool} {A : ℕ → Type 0} → Says b ((k : ℕ) → k < n * w → A k) →
+pub by_rows : (A : ℕ → Type 0) (n w : ℕ) {b : Bool} → Says b ((k : ℕ) → k < n * w → A k) →
     Says b ((s : ℕ) → s < n → (a : ℕ) → a < w → A (s * w + a))
-by_rows n w {A} x =
+by_rows A n w x =
     says_as x (λ f s h a g. f (s * w + a) (cell_within s a n w h g))
     (λ f k h. let pos = some_wide n w k h in subst A (div-add-mod' k w) (f (k / w) ((div-lt_iff_lt-mul pos).1 h) (k % w) (mod-lt k pos)))
 
 -- ---- productions
 
 -- production p, by what is read of it
-pub says_production : (t : List ℕ) (p l n m : ℕ) {b : Bool} → l ≡ left t p → n ≡ len t p → N t ≡ m →
-    Says b ((k : ℕ) → k < 8 → Placed t (symbol t p k) k n) → Says ((ltb l m && leb n 8) && b) (Production t p)
-says_production t p l n m el en em x =
-    says_as (says_and (says_and (says_lt l m) (says_le n 8)) x)
+pub says_production : (t : List ℕ) (p n : ℕ) {b : Bool} → left t p < N t → n ≡ len t p → n ≤ 8 →
+    Says b ((k : ℕ) → k < 8 → Placed t (symbol t p k) k n) → Says b (Production t p)
+says_production t p n l en s x =
+    says_as x
     (λ h. record {
-      of = omega arith;
+      of = l;
       short = omega arith;
-      used = λ k g. (h.1 k (omega arith)).0 (omega arith);
-      unused = λ k g f. (h.1 k g).1 (omega arith);
+      used = λ k g. (h k (omega arith)).0 (omega arith);
+      unused = λ k g f. (h k g).1 (omega arith);
     })
-    (λ h. let o = h.of in let s = h.short in
-    ((omega arith, omega arith), λ k g. (λ f. h.used k (omega arith), λ f. h.unused k g (omega arith))))
+    (λ h k g. (λ f. h.used k (omega arith), λ f. h.unused k g (omega arith)))
 
 -- ---- items
 
--- two bytes before two others, as the numbers that they make
-lex : (p d q e : ℕ) → d < 256 → e < 256 → Says (ltb (p * 256 + d) (q * 256 + e)) ((p < q) ⊎ ((p ≡ q) × (d < e)))
-lex p d q e h k = says_as (says_lt (p * 256 + d) (q * 256 + e)) (λ l. go l (ltb p q) refl) back
-  where
-    go : p * 256 + d < q * 256 + e → (c : Bool) → ltb p q ≡ c → (p < q) ⊎ ((p ≡ q) × (d < e))
-    go l true r = inl (ltb-true p q r)
-    go l false r = let m = ltb-false p q r in inr (omega arith, omega arith)
-
-    back : (p < q) ⊎ ((p ≡ q) × (d < e)) → p * 256 + d < q * 256 + e
-    back (inl l) = omega arith
-    back (inr l) = omega arith
-
 module _ (t : List ℕ) where
-  pub says_rising : Bytes t → (s i at : ℕ) → at ≡ item_at t s i → Says (ltb (word t at) (word t (at + 10))) (Rises t s i)
-  says_rising b s i at e =
-      let f : at + 10 ≡ item_at t s (i + 1) = omega arith in
-      rw (f, e) (lex (prod t s i) (dot t s i) (prod t s (i + 1)) (dot t s (i + 1)) (b _) (b _))
+  first : (s : ℕ) → Item t s 0 → ((j : ℕ) → j < count t s - 1 → Item t s (j + 1)) → (i : ℕ) → i < count t s → Item t s i
+  first s x f zero l = x
+  first s x f (suc j) l = subst (Item t s) (omega arith) (f j (omega arith))
 
-  -- the item at place `at`, by what is read there
-  pub says_item : (s i at p d n x all : ℕ) {b : Bool} → at ≡ item_at t s i → p ≡ byte t at → d ≡ byte t (at + 1) → n ≡ len t p →
-      x ≡ eight t (at + 2) → all + 1 ≡ 2 ^ T t → p < P t → Says b ((1 ≤ x) × (x < all + 1)) → Says (leb d n && b) (Item t s i)
-  says_item s i at p d n x all place ep ed en ex ea hp y =
-      let p' : p ≡ prod t s i = ep ∙ ap (byte t) place in
-      let d' : d ≡ dot t s i = ed ∙ ap (λ (m : ℕ). byte t (m + 1)) place in
-      let n' : n ≡ len t (prod t s i) = en ∙ ap (len t) p' in
-      let x' : x ≡ ahead t s i = ex ∙ ap (λ (m : ℕ). eight t (m + 2)) place in
-      says_as (says_and (says_le d n) y)
-      (λ h. record { named = omega arith; place = omega arith; full = omega arith; known = omega arith })
-      (λ h. let l = h.place in let f = h.full in let k = h.known in (omega arith, (omega arith, omega arith)))
-
-  -- the first n items of a state are right, and rise
-  pub record Upto (s n : ℕ) : Type 0 where
-    pub items : (i : ℕ) → i < n → Item t s i
-    pub rise : (i : ℕ) → i < n - 1 → Rises t s i
-
-  pub upto_one : (s : ℕ) {b : Bool} → Says b (Item t s 0) → Says b (Upto s 1)
-  upto_one s x =
-      says_as x
-      (λ h. record { items = λ i l. subst (Item t s) (omega arith) h; rise = λ i l. absurd (omega arith) })
-      (λ h. h.items 0 (omega arith))
-
-  pub upto_more : (s n : ℕ) {a b c : Bool} → 1 ≤ n → Says a (Upto s n) → Says b (Item t s n) → Says c (Rises t s (n - 1)) →
-      Says ((a && b) && c) (Upto s (n + 1))
-  upto_more s n l x y z =
-      says_as (says_and (says_and x y) z)
-      (λ h. record {
-        items = below_more (Item t s) n h.0.0.items h.0.1;
-        rise = λ i k. below (Rises t s) (n - 1) h.1 h.0.0.rise i (omega arith);
-      })
-      (λ h. let before : Upto s n = record { items = λ i k. h.items i (omega arith); rise = λ i k. h.rise i (omega arith) } in
-      ((before, h.items n (omega arith)), h.rise (n - 1) (omega arith)))
-
-  pub upto_all : (s : ℕ) {b : Bool} → 1 ≤ count t s → Says b (Upto s (count t s)) → Says b (State t s)
-  upto_all s l x =
-      says_as x (λ h. record { some = l; items = h.items; rise = h.rise }) (λ h. record { items = h.items; rise = h.rise })
+  -- the state's items: the first, and behind each but the last the next one, which comes after it
+  pub says_items : (s : ℕ) {b : Bool} → 1 ≤ count t s → Item t s 0 →
+      Says b ((i : ℕ) → i < count t s - 1 → Item t s (i + 1) × Rises t s i) → Says b (State t s)
+  says_items s l x y =
+      says_as y
+      (λ h. record { some = l; items = first s x (λ j o. (h j o).0); rise = λ i k. (h i k).1 })
+      (λ h i k. (h.items (i + 1) (omega arith), h.rise i k))
 
   -- ---- the walk over the states
 

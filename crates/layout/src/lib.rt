@@ -3,27 +3,17 @@
 #![tactic(auto)]
 
 ghost use Rattle.std.specs.Prelude.{◌≡◌, List, ℕ, ◌+◌, ◌*◌, ◌^◌, ◌≤◌, ◌<◌, length};
-ghost use Rattle.definitions.specs.Sheet.{T, N, P, S, items_at, state_at, item_at, Between, Head, IsSymbol, IsAction, IsGoto, Production, Item, Rises, State, Layout};
+ghost use Rattle.definitions.specs.Sheet.{T, N, P, S, items_at, state_at, item_at, Head, IsSymbol, IsAction, IsGoto, Production, Item, Rises, State, Layout};
 ghost use Rattle.theory.specs.Check.Says.{Says};
 ghost use Rattle.layout.specs.Parts.{Placed, Productions, Actions, Gotos, Known, Fits, States};
 
 // ---- the head
 
-// Is x one of lo..hi?
-fn between(lo: usize, x: usize, hi: usize) -> bool
-    ensures { Says result (Between lo x hi) }
-{
-    (lo <= x) & (x <= hi)
-}
-
 // Is there room for all that stands before the first state?
 fn head_fits(t: &[u8]) -> bool
     ensures { Says result (items_at t.now ≤ length t.now) }
 {
-    if t.len() < 9 {
-        return false;
-    }
-    sheet::items_at(t) <= t.len()
+    t.len() >= 9 && sheet::items_at(t) <= t.len()
 }
 
 // Is the head right: its letters, its version, and the four counts?
@@ -31,13 +21,12 @@ fn head_right(t: &[u8]) -> bool
     requires { 9 ≤ length t.now }
     ensures { Says result (Head t.now) }
 {
-    let letters = (t[0] == 76) & (t[1] == 82) & (t[2] == 84);
-    let version = sheet::word(t, 3) == 1;
-    let terminals = between(1, sheet::terminals_of(t), 64);
-    let nonterminals = between(2, sheet::nonterminals_of(t), 64);
-    let productions = between(2, sheet::productions_of(t), 200);
-    let states = between(2, sheet::states_of(t), 200);
-    letters & version & terminals & nonterminals & productions & states
+    t.starts_with(b"LRT")
+        && sheet::word(t, 3) == 1
+        && (1..=64).contains(&sheet::terminals_of(t))
+        && (2..=64).contains(&sheet::nonterminals_of(t))
+        && (2..=200).contains(&sheet::productions_of(t))
+        && (2..=200).contains(&sheet::states_of(t))
 }
 
 // ---- the productions
@@ -47,7 +36,7 @@ fn is_symbol(x: usize, terminals: usize, nonterminals: usize) -> bool
     requires { nonterminals < 256 }
     ensures { (t : List ℕ) → T t ≡ terminals → N t ≡ nonterminals → Says result (IsSymbol t x) }
 {
-    (x < terminals) | ((128 <= x) & (x < 128 + nonterminals))
+    x < terminals || (128..128 + nonterminals).contains(&x)
 }
 
 // Is x right as symbol k of a right side of n?
@@ -56,9 +45,10 @@ fn symbol_right(x: usize, k: usize, n: usize, terminals: usize, nonterminals: us
     ensures { (t : List ℕ) → T t ≡ terminals → N t ≡ nonterminals → Says result (Placed t x k n) }
 {
     if k < n {
-        return is_symbol(x, terminals, nonterminals);
+        is_symbol(x, terminals, nonterminals)
+    } else {
+        x == 0
     }
-    x == 0
 }
 
 // Is production p right?
@@ -66,14 +56,16 @@ fn production_right(t: &[u8], p: usize, terminals: usize, nonterminals: usize) -
     requires { (9 + 10 * p + 10 ≤ length t.now) × (T t.now ≡ terminals) × (N t.now ≡ nonterminals) × (nonterminals < 256) }
     ensures { Says result (Production t.now p) }
 {
-    let n = sheet::wide(sheet::len(t, p));
-    let sides = (sheet::wide(sheet::left(t, p)) < nonterminals) & (n <= 8);
-    let mut ok = true;
-    for k in 0..8 {
-        let x = sheet::wide(sheet::symbol(t, p, k));
-        ok = ok & symbol_right(x, k, n, terminals, nonterminals);
-    }
-    sides & ok
+    let n = usize::from(sheet::len(t, p));
+    usize::from(sheet::left(t, p)) < nonterminals
+        && n <= 8
+        && (0..8).all(|k| symbol_right(
+            usize::from(sheet::symbol(t, p, k)),
+            k,
+            n,
+            terminals,
+            nonterminals,
+        ))
 }
 
 // Are all productions right?
@@ -83,12 +75,7 @@ fn productions_right(t: &[u8]) -> bool
 {
     let terminals = sheet::terminals_of(t);
     let nonterminals = sheet::nonterminals_of(t);
-    let productions = sheet::productions_of(t);
-    let mut ok = true;
-    for p in 0..productions {
-        ok = ok & production_right(t, p, terminals, nonterminals);
-    }
-    ok
+    (0..sheet::productions_of(t)).all(|p| production_right(t, p, terminals, nonterminals))
 }
 
 // ---- the actions and the gotos
@@ -98,10 +85,11 @@ fn is_action(w: u32, states: u32, productions: u32) -> bool
     requires { (states < 256) × (productions < 256) }
     ensures { (t : List ℕ) → S t ≡ states → P t ≡ productions → Says result (IsAction t w) }
 {
-    ((w <= 1) | ((256 <= w) & (w < 256 + states))) | ((512 <= w) & (w < 512 + productions))
+    w <= 1 || (256..256 + states).contains(&w) || (512..512 + productions).contains(&w)
 }
 
-// Are all action words right? They are one run, by state and terminal.
+// Are all action words right? They are one run, by state and terminal. The loop stays, for speed: it is compiled to tests of several words
+// at once, and with `all`, which stops early, here and for the gotos the check of tables/large.lrt takes 5 % more instructions.
 fn actions_right(t: &[u8]) -> bool
     requires { items_at t.now ≤ length t.now }
     ensures { Says result (Actions t.now) }
@@ -112,7 +100,7 @@ fn actions_right(t: &[u8]) -> bool
     let words = (sheet::gotos_at(t) - at) / 2;
     let mut ok = true;
     for k in 0..words {
-        ok = ok & is_action(sheet::word(t, at + 2 * k), states, productions);
+        ok &= is_action(sheet::word(t, at + 2 * k), states, productions);
     }
     ok
 }
@@ -121,10 +109,10 @@ fn actions_right(t: &[u8]) -> bool
 fn is_goto(g: u8, states: u8) -> bool
     ensures { (t : List ℕ) → S t ≡ states → Says result (IsGoto t g) }
 {
-    (g < states) | (g == 255)
+    g < states || g == 255
 }
 
-// Are all goto bytes right? They are one run, by state and nonterminal.
+// Are all goto bytes right? They are one run, by state and nonterminal. The loop stays, for the speed told at the actions.
 fn gotos_right(t: &[u8]) -> bool
     requires { items_at t.now ≤ length t.now }
     ensures { Says result (Gotos t.now) }
@@ -134,7 +122,7 @@ fn gotos_right(t: &[u8]) -> bool
     let bytes = sheet::items_at(t) - at;
     let mut ok = true;
     for k in 0..bytes {
-        ok = ok & is_goto(sheet::byte(t, at + k), states);
+        ok &= is_goto(sheet::byte(t, at + k), states);
     }
     ok
 }
@@ -147,29 +135,17 @@ fn all_terminals(terminals: usize) -> u64
     ensures { result + 1 ≡ 2 ^ terminals }
 {
     if terminals < 64 {
-        return (1 << terminals) - 1;
+        (1 << terminals) - 1
+    } else {
+        u64::MAX
     }
-    18446744073709551615
 }
 
 // Is x one of 1..all, so not empty and of terminals that exist?
 fn is_set(x: u64, all: u64) -> bool
     ensures { Says result ((1 ≤ x) × (x < all + 1)) }
 {
-    (1 <= x) & (x <= all)
-}
-
-// Is the item at place `at` right?
-fn item_right(t: &[u8], at: usize, productions: usize, all: u64) -> bool
-    requires { Known t.now productions all × (at + 10 ≤ length t.now) }
-    ensures { (s i : ℕ) → at ≡ item_at t.now s i → Says result (Item t.now s i) }
-{
-    let p = sheet::wide(sheet::prod(t, at));
-    if p >= productions {
-        return false;
-    }
-    let ahead = sheet::eight(t, at + 2);
-    (sheet::dot(t, at) <= sheet::len(t, p)) & is_set(ahead, all)
+    (1..=all).contains(&x)
 }
 
 // Does the item at place `at` come before the next one, by production and dot?
@@ -190,32 +166,56 @@ fn state_fits(t: &[u8], at: usize, passed: usize) -> bool
         return false;
     }
     let n = sheet::count(t, at);
-    ((1 <= n) & (passed + n <= 2400)) & (2 + 10 * n <= left)
+    n >= 1 && passed + n <= 2400 && 2 + 10 * n <= left
 }
 
-// Are the items of the state at place `at` right, and do they rise?
-fn items_right(t: &[u8], at: usize, productions: usize, all: u64) -> bool
-    requires { Known t.now productions all × Fits t.now at 0 }
-    ensures { (s : ℕ) → at ≡ state_at t.now s → Says result (State t.now s) }
-{
-    let n = sheet::count(t, at);
-    let mut ok = item_right(t, at + 2, productions, all);
-    for i in 1..n {
+// A sheet with all that stands before its states, and what the walk over them asks of it: how many productions there are, and the largest
+// set of terminals.
+#[derive(Clone, Copy)]
+struct Walk<'a> {
+    t: &'a [u8],
+    productions: usize,
+    all: u64,
+    ghost known: { Known t.now productions all },
+}
+
+impl<'a> Walk<'a> {
+    // Is the item at place `at` right?
+    fn item_right(&self, at: usize) -> bool
+        requires { at + 10 ≤ length self.now.t.now }
+        ensures { (s i : ℕ) → at ≡ item_at self.now.t.now s i → Says result (Item self.now.t.now s i) }
+    {
+        let p = usize::from(sheet::prod(self.t, at));
+        p < self.productions
+            && sheet::dot(self.t, at) <= sheet::len(self.t, p)
+            && is_set(sheet::eight(self.t, at + 2), self.all)
+    }
+
+    // Is item i + 1 of the state at place `at` right, and does it come after item i?
+    fn next_right(&self, at: usize, i: usize) -> bool
+        requires { at + (2 + 10 * i) + 20 ≤ length self.now.t.now }
+        ensures { (s : ℕ) → at ≡ state_at self.now.t.now s → Says result (Item self.now.t.now s (i + 1) × Rises self.now.t.now s i) }
+    {
         let item = at + (2 + 10 * i);
-        ok = ok & item_right(t, item, productions, all) & rises(t, item - 10);
+        self.item_right(item + 10) && rises(self.t, item)
     }
-    ok
-}
 
-// Does the state at place `at` fit, and is it right?
-fn state_right(t: &[u8], at: usize, passed: usize, productions: usize, all: u64) -> bool
-    requires { Known t.now productions all × (at ≤ length t.now) × (passed ≤ 2400) }
-    ensures { (s : ℕ) → at ≡ state_at t.now s → Says result (Fits t.now at passed × State t.now s) }
-{
-    if !state_fits(t, at, passed) {
-        return false;
+    // Are the items of the state at place `at` right, and do they rise?
+    fn items_right(&self, at: usize) -> bool
+        requires { Fits self.now.t.now at 0 }
+        ensures { (s : ℕ) → at ≡ state_at self.now.t.now s → Says result (State self.now.t.now s) }
+    {
+        let others = sheet::count(self.t, at) - 1;
+        self.item_right(at + 2) && (0..others).all(|i| self.next_right(at, i))
     }
-    items_right(t, at, productions, all)
+
+    // Does the state at place `at` fit, and is it right?
+    fn state_right(&self, at: usize, passed: usize) -> bool
+        requires { (at ≤ length self.now.t.now) × (passed ≤ 2400) }
+        ensures { (s : ℕ) → at ≡ state_at self.now.t.now s → Says result (Fits self.now.t.now at passed × State self.now.t.now s) }
+    {
+        state_fits(self.t, at, passed) && self.items_right(at)
+    }
 }
 
 // Are all states right, and does nothing follow them? One walk, which stops where a state passes the end or the items are too many.
@@ -223,16 +223,18 @@ fn states_right(t: &[u8]) -> bool
     requires { Head t.now × (items_at t.now ≤ length t.now) }
     ensures { Says result (States t.now) }
 {
-    let all = all_terminals(sheet::terminals_of(t));
-    let productions = sheet::productions_of(t);
-    let states = sheet::states_of(t);
+    let walk = Walk {
+        t,
+        productions: sheet::productions_of(t),
+        all: all_terminals(sheet::terminals_of(t)),
+    };
     let mut at = sheet::items_at(t);
     let mut passed: usize = 0;
-    for s in 0..states {
-        if !state_right(t, at, passed, productions, all) {
+    for s in 0..sheet::states_of(t) {
+        if !walk.state_right(at, passed) {
             return false;
         }
-        passed = passed + sheet::count(t, at);
+        passed += sheet::count(t, at);
         at = sheet::next_state(t, at);
     }
     at == t.len()
@@ -244,20 +246,10 @@ fn states_right(t: &[u8]) -> bool
 pub fn laid_out(t: &[u8]) -> bool
     ensures { Says result (Layout t.now) }
 {
-    if !head_fits(t) {
-        return false;
-    }
-    if !head_right(t) {
-        return false;
-    }
-    if !productions_right(t) {
-        return false;
-    }
-    if !actions_right(t) {
-        return false;
-    }
-    if !gotos_right(t) {
-        return false;
-    }
-    states_right(t)
+    head_fits(t)
+        && head_right(t)
+        && productions_right(t)
+        && actions_right(t)
+        && gotos_right(t)
+        && states_right(t)
 }

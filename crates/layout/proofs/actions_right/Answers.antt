@@ -1,23 +1,12 @@
--- `layout::actions_right` meets its contract. The loop's invariant: the test so far is that of the words passed. Assumes nothing.
-use mathlib.Core.Path.{◌≡◌}
-use Prim.Native.Nat.{◌*◌}
-use native.Mathlib.Omega.{arith}
-use Rattle.definitions.specs.Sheet.{T, S}
-use Rattle.layout.proofs.Laws.{none, one_more, up_to, by_rows}
+-- The words are tested in one run, by state and terminal.
+use Rattle.std.proofs.Common.{arith, ◌+◌, ◌*◌}
+use Rattle.definitions.specs.Sheet.{word, T, S, actions_at, IsAction}
+use Rattle.theory.specs.Check.Says.{says_as}
+use Rattle.layout.proofs.Laws.{by_rows}
 use Rattle.layout.proofs.actions_right.Goals as goal
-
-pub loop-k-init : goal.loop-k-init
-loop-k-init c = (omega arith, none)
-
-pub loop-k-preserved : goal.loop-k-preserved
-loop-k-preserved c =
-    let t = c.args.t.now in
-    let x = c.is_action-ok.ensures t (omega arith) (omega arith) in
-    let y = rw (c.word.ensures.0, c.actions_at-at.ensures.0) at x in
-    (omega arith, one_more _ c.loop-k.invariant.1 y)
 
 pub returns : goal.returns
 returns c =
     let t = c.args.t.now in
-    let e : c.loop-k.k ≡ S t * T t = omega arith in
-    by_rows (S t) (T t) (up_to e c.loop-k.invariant.1)
+    by_rows (λ k. IsAction t (word t (actions_at t + 2 * k))) (S t) (T t)
+    (says_as c.loop-k.invariant (λ h k l. h k (omega arith)) (λ h k l. h k (omega arith)))

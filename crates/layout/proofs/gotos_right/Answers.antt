@@ -1,23 +1,12 @@
--- `layout::gotos_right` meets its contract. The loop's invariant: the test so far is that of the bytes passed. Assumes nothing.
-use mathlib.Core.Path.{◌≡◌, refl}
-use Prim.Native.Nat.{◌*◌}
-use native.Mathlib.Omega.{arith}
-use Rattle.definitions.specs.Sheet.{N, S}
-use Rattle.layout.proofs.Laws.{none, one_more, up_to, by_rows}
+-- The bytes are tested in one run, by state and nonterminal.
+use Rattle.std.proofs.Common.{arith, ◌+◌}
+use Rattle.definitions.specs.Sheet.{byte, N, S, gotos_at, IsGoto}
+use Rattle.theory.specs.Check.Says.{says_as}
+use Rattle.layout.proofs.Laws.{by_rows}
 use Rattle.layout.proofs.gotos_right.Goals as goal
-
-pub loop-k-init : goal.loop-k-init
-loop-k-init c = (omega arith, none)
-
-pub loop-k-preserved : goal.loop-k-preserved
-loop-k-preserved c =
-    let t = c.args.t.now in
-    let x = c.is_goto-ok.ensures t refl in
-    let y = rw (c.byte.ensures, c.gotos_at-at.ensures.0) at x in
-    (omega arith, one_more _ c.loop-k.invariant.1 y)
 
 pub returns : goal.returns
 returns c =
     let t = c.args.t.now in
-    let e : c.loop-k.k ≡ S t * N t = omega arith in
-    by_rows (S t) (N t) (up_to e c.loop-k.invariant.1)
+    by_rows (λ k. IsGoto t (byte t (gotos_at t + k))) (S t) (N t)
+    (says_as c.loop-k.invariant (λ h k l. h k (omega arith)) (λ h k l. h k (omega arith)))

@@ -1,46 +1,24 @@
--- `layout::states_right` meets its contract. The loop's invariant: the walk has come to state s, and all was right. Assumes nothing.
-use Rattle.std.proofs.Common.{ap, not}
-use native.Mathlib.Omega.{arith}
+-- The walk has come to state s, and all was right.
+use Rattle.std.proofs.Common.{arith}
 use Rattle.definitions.specs.Sheet.{State}
 use Rattle.layout.specs.Parts.{Fits}
-use Rattle.layout.proofs.Laws.{part_refused, passed, walked_none, walked_more, walked_on, walked_all}
+use Rattle.layout.proofs.Laws.{part_refused, walked_none, walked_more, walked_on, walked_all}
 use Rattle.layout.proofs.states_right.Goals as goal
 use Rattle.layout.proofs.states_right.Goals.{Else-not-state_right}
 
 -- the state that the walk has come to fits and is right
 found : (c : Else-not-state_right) → let t = c.args.t.now in
     Fits t c.loop-s.at c.loop-s.passed × State t c.loop-s.s
-found c =
-    let w = c.loop-s in
-    passed (c.state_right.ensures w.s w.invariant.1.place) (ap not c.if-not-state_right.false)
+found c = (c.state_right.ensures c.loop-s.s c.loop-s.invariant.place).to c.if-not-state_right.false
 
 pub loop-s-init : goal.loop-s-init
-loop-s-init c =
-    let t = c.args.t.now in
-    (omega arith, walked_none t c.items_at-at.result c.items_at-at.ensures.0 (omega arith))
-
-pub state_right-requires : goal.state_right-requires
-state_right-requires c =
-    let w = c.loop-s.invariant.1 in
-    let a = c.all_terminals-all.ensures in (
-      record {
-        room = omega arith;
-        named = c.productions_of-productions.ensures.0;
-        sets = rw c.terminals_of.ensures.0 at a;
-      },
-      w.within,
-      w.few,
-    )
+loop-s-init c = walked_none c.args.t.now c.items_at-at.result c.items_at-at.ensures.0 c.requires.1
 
 pub returns-then-not-state_right : goal.returns-then-not-state_right
 returns-then-not-state_right c =
     let t = c.args.t.now in
     let w = c.loop-s in
-    part_refused (c.state_right.ensures w.s w.invariant.1.place) (ap not c.if-not-state_right.true)
-    (walked_on t w.s w.at w.passed w.invariant.1 (omega arith))
-
-pub count-passed-requires : goal.count-passed-requires
-count-passed-requires c = let x = (found c).0 in omega arith
+    rw c.if-not-state_right.true at (part_refused (c.state_right.ensures w.s w.invariant.place) c.if-not-state_right.true (walked_on t w.s w.at w.passed w.invariant (omega arith)))
 
 pub overflow_add-passed : goal.overflow_add-passed
 overflow_add-passed c = let x = (found (goal.at.overflow_add-passed c).Else-not-state_right).0 in omega arith
@@ -53,9 +31,9 @@ loop-s-preserved c =
     let t = c.args.t.now in
     let w = c.loop-s in
     let x = found (goal.at.loop-s-preserved c).Else-not-state_right in
-    (omega arith, walked_more t w.s w.at w.passed _ _ w.invariant.1 x.0 x.1 c.next_state-at.ensures (omega arith))
+    walked_more t w.s w.at w.passed _ _ w.invariant x.0 x.1 c.next_state-at.ensures (omega arith)
 
 pub returns : goal.returns
 returns c =
     let t = c.args.t.now in
-    walked_all t c.loop-s.s c.loop-s.at c.loop-s.passed (omega arith) c.loop-s.invariant.1
+    walked_all t c.loop-s.s c.loop-s.at c.loop-s.passed (omega arith) c.loop-s.invariant
