@@ -1,6 +1,6 @@
 -- Condition 7 at a state, from the set of the nonterminals after the dots of the items to which a chain leads: such a set holds
 -- nothing else, and another round over the items adds nothing to it.
-use Rattle.std.specs.Prelude.{◌≡◌, refl, Bool, List, ◌⊎◌, ◌↔◌, ℕ, zero, suc, ◌+◌, ◌≤◌, ◌<◌, get_or}
+use Rattle.std.specs.Prelude.{◌≡◌, refl, Bool, List, ◌⊎◌, ◌↔◌, ℕ, zero, suc, ◌+◌, ◌≤◌, ◌<◌}
 use Rattle.std.proofs.Common.{sym, subst, inl, inr, not-suc-le-zero, arith, below_more}
 use Rattle.std.proofs.Math.Path.{subst⁻¹}
 use Rattle.std.specs.Int.Bits.{or_add_and}
@@ -10,8 +10,6 @@ use Rattle.definitions.specs.States.{Holds, HasItem, Led, begin, next, Condition
 use Rattle.theory.specs.Check.Says.{Says, says_as}
 use Rattle.theory.specs.Check.ItemLaws.{with_item}
 use Rattle.terminals.specs.Members.{Join, Within, within_is, empty_is}
-use Rattle.states.specs.Places.{Lies, below}
-use Rattle.grammar.specs.Productions.{Lefts}
 use Rattle.states.specs.Items.{After}
 use Rattle.states.specs.Gathering.{Exactly, exactly_none, AfterNonterminal}
 
@@ -130,15 +128,6 @@ module _ (t : List ℕ) (s x i : ℕ) {d : ℕ} (e : d ≡ dot t s i) where
       back (inl (inl r)) = let a = r.0 in absurd (k (omega arith))
       back (inl (inr r)) = absurd (omega arith)
       back (inr r) = subst⁻¹ (Holds x) q r
-
--- the left side of an item's production, as it is lent
-module _ {t : List ℕ} {s at n : ℕ} (l : Lies t s at n) (i : ℕ) (h : i < n) (lefts : List ℕ) (y : Lefts t lefts) {p : ℕ} (e : p ≡ prod t s i) where
-  pub lent_left : get_or lefts p 0 ≡ left t (prod t s i)
-  lent_left = let k = below l i h in subst (λ (q : ℕ). get_or lefts p 0 ≡ left t q) e (y p (omega arith))
-
-  pub lent_left-small : get_or lefts p 0 < 64
-  lent_left-small =
-      let a = lent_left in let b = (l.laid.productions (prod t s i) (below l i h).0).of in let c = l.laid.head.nonterminals.1 in omega arith
 
 -- ---- condition 7 holds exactly where every item is ready
 

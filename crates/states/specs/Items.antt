@@ -1,35 +1,34 @@
 -- What a state condition says of one item of a state: what stands after its dot, and conditions 3 and 4 at it. The laws say that
 -- all of them together are the conditions.
-use Rattle.std.specs.Prelude.{◌≡◌, refl, Bool, false, true, cond, ◌&&◌, List, ◌↔◌, ℕ, zero, suc, ◌+◌, ◌-◌, ◌≤◌, ◌<◌, leb, ltb, eqb, get_or}
-use Rattle.std.proofs.Common.{sym, subst, ◌∙◌, inl, inr, lt-ltb, le-ltb, le-leb, arith}
+use Rattle.std.specs.Prelude.{◌≡◌, refl, Bool, false, true, cond, ◌&&◌, List, ◌⊎◌, ◌↔◌, ℕ, zero, suc, ◌+◌, ◌-◌, ◌≤◌, ◌<◌, leb, ltb, eqb, Option, Some, None}
+use Rattle.std.proofs.Common.{sym, subst, ◌∙◌, inl, inr, lt-ltb, le-ltb, le-leb, ltb-true, ltb-false, leb-true, arith}
 use Rattle.std.proofs.Math.Path.{subst⁻¹}
-use Rattle.std.proofs.lemmas.Bool.{lt-leb}
+use Rattle.std.proofs.lemmas.Bool.{lt-leb, leb-false}
 use Rattle.definitions.specs.Sheet.{T, N, S, len, symbol, action, goto, count, prod, dot, ahead, IsSymbol, IsAction, IsGoto, Item, Layout}
 use Rattle.definitions.specs.States.{Holds, HasItem, In, target, Goes, Condition3, Reduces, Condition4}
 use Rattle.theory.specs.Check.Says.{Says, says_yes, says_no, says_as, says_eq}
 use Rattle.theory.specs.Check.ItemLaws.{with_in}
 use Rattle.terminals.specs.Members.{Within, empty_is, held_below}
-use Rattle.states.specs.Places.{Lies, IsItem, once, below, listed}
-use Rattle.grammar.specs.Productions.{cell, Rows, Lens}
+use Rattle.states.specs.Places.{Lies, IsItem, once, listed}
 
 -- x stands after the dot of item i of s
 pub record After (t : List ℕ) (s i x : ℕ) : Type 0 where
   pub inner : dot t s i < len t (prod t s i)
   pub is : symbol t (prod t s i) (dot t s i) ≡ x
 
--- what the code reads after the dot: 255 where the item is complete
-pub record Reads (t : List ℕ) (s i x : ℕ) : Type 0 where
-  pub stands : (x ≡ 255 → ⊥) → After t s i x
-  pub shut : x ≡ 255 → dot t s i ≡ len t (prod t s i)
+-- what the code reads after the dot: nothing where the item is complete
+abbrev pub Reads : List ℕ → ℕ → ℕ → Option ℕ → Type 0
+Reads t s i (Some x) = After t s i x
+Reads t s i None = dot t s i ≡ len t (prod t s i)
 
 -- the target of a transition, as the code reads it
-pub record Target (t : List ℕ) (s x u : ℕ) : Type 0 where
-  pub is : u ≡ target t s x
-  pub state : (u ≡ 255 → ⊥) → u < S t
+abbrev pub Target : List ℕ → ℕ → ℕ → Option ℕ → Type 0
+Target t s x (Some u) = (u ≡ target t s x) × (u < S t)
+Target t s x None = target t s x ≡ 255
 
--- where an action word leads; 255 where it is no shift
-abbrev pub shift_of : ℕ → ℕ
-shift_of w = cond (leb 256 w && ltb w 512) (w - 256) 255
+-- where an action word leads, if it is a shift
+abbrev pub shift_of : ℕ → Option ℕ
+shift_of w = cond (leb 256 w && ltb w 512) (Some (w - 256)) None
 
 -- (p,d) is in u with a set that holds what x holds
 abbrev pub Covers : List ℕ → ℕ → ℕ → ℕ → ℕ → Type 0
@@ -103,12 +102,12 @@ module _ {t : List ℕ} {s at n : ℕ} (l : Lies t s at n) (i : ℕ) (h : i < n)
       let z = (empty_is (ahead t s i)).0 (λ a k. subst (Goes t s) r.is (f.moves a (known a k) k r.inner).0 e) in
       let o = some-ahead in omega arith)
 
-  pub three_goes : {b : Bool} {x u p d y : ℕ} → After t s i x → (u ≡ 255 → ⊥)
+  pub three_goes : {b : Bool} {x u p d y : ℕ} → After t s i x → u < S t
       → u ≡ target t s x → p ≡ prod t s i → d ≡ dot t s i → y ≡ ahead t s i → Says b (Covers t u p (d + 1) y) → Says b (Condition3At t s i)
   three_goes r g eu ep ed ey z = says_as z
       (λ f. record {
         moves = λ a ha k m. rw r.is (
-          (λ q. g (eu ∙ q)),
+          (λ q. let m = l.laid.head.states.1 in omega arith),
           (let w = f a (subst⁻¹ (λ (y : ℕ). Holds y a) ey k) in rw (eu, ep, ed) at w),
         );
       })
@@ -126,34 +125,12 @@ pub asks_reduce : (p : ℕ) → (p ≡ 0 → ⊥) → Asks p (512 + p)
 asks_reduce zero e = absurd (e refl)
 asks_reduce (suc p) e = record { is = λ w. (λ h. h, λ h. h) }
 
--- the length of an item's production, as it is lent
-module _ {t : List ℕ} {s at n : ℕ} (l : Lies t s at n) (i : ℕ) (h : i < n) (lens : List ℕ) (y : Lens t lens) {p : ℕ} (e : p ≡ prod t s i) where
-  pub lent_length : get_or lens p 0 ≡ len t (prod t s i)
-  lent_length = let k = below l i h in subst (λ (q : ℕ). get_or lens p 0 ≡ len t q) e (y p (omega arith))
+-- what the code reads after a dot, from the production's length and its symbol there
+pub reads_open : {t : List ℕ} {s i p d n x : ℕ} → p ≡ prod t s i → d ≡ dot t s i → n ≡ len t p → d < n → x ≡ symbol t p d → After t s i x
+reads_open e f g h k = record { inner = rw (← e, ← f, ← g) h; is = rw (← e, ← f) (sym k) }
 
-  pub lent_short : get_or lens p 0 ≤ 8
-  lent_short = let a = lent_length in let b = (l.laid.productions (prod t s i) (below l i h).0).short in omega arith
-
--- what the code reads after a dot, from the productions that are lent
-module _ {t : List ℕ} {s at n : ℕ} (l : Lies t s at n) (i : ℕ) (h : i < n) (rows : List (List ℕ)) (lens : List ℕ) (x : Rows t rows) (y : Lens t lens) {p d : ℕ}
-    (e : p ≡ prod t s i) (f : d ≡ dot t s i) where
-  pub reads_open : d < get_or lens p 0 → Reads t s i (cell rows p d)
-  reads_open k =
-      let a = lent_length l i h lens y e in let b = lent_short l i h lens y e in let c = below l i h in
-      let z : cell rows p d ≡ symbol t (prod t s i) (dot t s i) = rw (← e, ← f) (x p (omega arith) d (omega arith)) in
-      record {
-        stands = λ g. record { inner = omega arith; is = sym z };
-        shut = λ q. absurd (small ((l.laid.productions (prod t s i) c.0).used (dot t s i) (omega arith)) (sym z ∙ q));
-      }
-    where
-      small : IsSymbol t (symbol t (prod t s i) (dot t s i)) → symbol t (prod t s i) (dot t s i) ≡ 255 → ⊥
-      small (inl u) q = let v = l.laid.head.terminals.1 in omega arith
-      small (inr u) q = let v = l.laid.head.nonterminals.1 in let w = u.1 in omega arith
-
-  pub reads_shut : get_or lens p 0 ≤ d → Reads t s i 255
-  reads_shut k =
-      let a = lent_length l i h lens y e in let b = ((l.laid.states s l.state).items i (let m = l.many in omega arith)).place in
-      record { stands = λ g. absurd (g refl); shut = λ q. omega arith }
+pub reads_shut : (t : List ℕ) (s i : ℕ) {p d n : ℕ} → d ≤ len t (prod t s i) → p ≡ prod t s i → d ≡ dot t s i → n ≡ len t p → n ≤ d → dot t s i ≡ len t (prod t s i)
+reads_shut t s i k e f g h = let a = rw e at g in omega arith
 
 -- ---- where a symbol leads
 
@@ -165,33 +142,53 @@ pub nonterminal_of : (t : List ℕ) (x : ℕ) → Layout t → IsSymbol t x → 
 nonterminal_of t x l (inl h) k = absurd (let a = l.head.terminals.1 in omega arith)
 nonterminal_of t x l (inr h) k = let a = h.1 in omega arith
 
-shift_state : (t : List ℕ) (w : ℕ) → Layout t → IsAction t w → (shift_of w ≡ 255 → ⊥) → shift_of w < S t
-shift_state t w l (inl (inl h)) g = absurd (g (simp (lt-leb 256 w (omega arith))))
-shift_state t w l (inl (inr h)) g =
-    let a = h.0 in let b = h.1 in let c = l.head.states.1 in
-    simp (le-leb 256 w a, lt-ltb w 512 (omega arith)) (omega arith)
-shift_state t w l (inr h) g = let a = h.0 in absurd (g (simp (le-leb 256 w (omega arith), le-ltb w 512 a)))
+-- a shift; any other action
+pub shift_some : (w u : ℕ) → shift_of w ≡ Some u → (256 ≤ w) × (w < 512) × (u ≡ w - 256)
+shift_some w u e = go (leb 256 w) refl (ltb w 512) refl e
+  where
+    go : (a : Bool) → leb 256 w ≡ a → (b : Bool) → ltb w 512 ≡ b → cond (a && b) (Some (w - 256)) None ≡ Some u → (256 ≤ w) × (w < 512) × (u ≡ w - 256)
+    go true p true q f = (leb-true 256 w p, ltb-true w 512 q, cc)
+    go true p false q f = absurd cc
+    go false p b q f = absurd cc
+
+pub shift_none : (w : ℕ) → shift_of w ≡ None → (w < 256) ⊎ (512 ≤ w)
+shift_none w e = go (leb 256 w) refl (ltb w 512) refl e
+  where
+    go : (a : Bool) → leb 256 w ≡ a → (b : Bool) → ltb w 512 ≡ b → cond (a && b) (Some (w - 256)) None ≡ None → (w < 256) ⊎ (512 ≤ w)
+    go true p true q f = absurd cc
+    go true p false q f = inr (ltb-false w 512 q)
+    go false p b q f = inl (leb-false 256 w p)
+
+-- where an action word leads: 255 where it is no shift
+pub no_shift : (w : ℕ) → (w < 256) ⊎ (512 ≤ w) → cond (leb 256 w && ltb w 512) (w - 256) 255 ≡ 255
+no_shift w (inl h) = simp (lt-leb 256 w h)
+no_shift w (inr h) = simp (le-leb 256 w (omega arith), le-ltb w 512 h)
+
+shift_state : (t : List ℕ) (w : ℕ) → Layout t → IsAction t w → 256 ≤ w → w < 512 → w - 256 < S t
+shift_state t w l (inl (inl h)) a b = absurd (omega arith)
+shift_state t w l (inl (inr h)) a b = let c = h.1 in omega arith
+shift_state t w l (inr h) a b = let c = h.0 in absurd (omega arith)
 
 goto_state : (t : List ℕ) (g : ℕ) → IsGoto t g → (g ≡ 255 → ⊥) → g < S t
 goto_state t g (inl h) k = h
 goto_state t g (inr h) k = absurd (k h)
 
 module _ (t : List ℕ) (laid : Layout t) (s : ℕ) (state : s < S t) (x : ℕ) (sy : IsSymbol t x) where
-  pub shift-target : x < 128 → {u : ℕ} → u ≡ shift_of (action t s x) → Target t s x u
-  shift-target h {u} e =
-      record {
-        is = rw (lt-ltb x 128 h) e;
-        state = λ g. subst⁻¹ (λ (u : ℕ). u < S t) e
-            (shift_state t (action t s x) laid (laid.actions s state x (terminal_of t x sy h)) (λ q. g (e ∙ q)));
-      }
+  pub shift-target : x < 128 → (o : Option ℕ) → o ≡ shift_of (action t s x) → Target t s x o
+  shift-target h (Some u) e =
+      let k = shift_some (action t s x) u (sym e) in
+      let a = k.0 in let b = k.1 in
+      let z : target t s x ≡ action t s x - 256 = rw (lt-ltb x 128 h) (simp (le-leb 256 (action t s x) a, lt-ltb (action t s x) 512 b)) in
+      let f : u ≡ action t s x - 256 = k.2 in
+      (f ∙ sym z, subst⁻¹ (λ (u : ℕ). u < S t) f (shift_state t (action t s x) laid (laid.actions s state x (terminal_of t x sy h)) a b))
+  shift-target h None e = rw (lt-ltb x 128 h) (no_shift (action t s x) (shift_none (action t s x) (sym e)))
 
-  pub goto-target : 128 ≤ x → {u : ℕ} → u ≡ goto t s (x - 128) → Target t s x u
-  goto-target h {u} e =
-      record {
-        is = rw (le-ltb x 128 h) e;
-        state = λ g. subst⁻¹ (λ (u : ℕ). u < S t) e
-            (goto_state t (goto t s (x - 128)) (laid.gotos s state (x - 128) (nonterminal_of t x laid sy h)) (λ q. g (e ∙ q)));
-      }
+  pub goto-target : 128 ≤ x → (g : ℕ) → g ≡ goto t s (x - 128) → (g ≡ 255 → ⊥) → Target t s x (Some g)
+  goto-target h g e k =
+      (rw (le-ltb x 128 h) e, subst⁻¹ (λ (u : ℕ). u < S t) e (goto_state t (goto t s (x - 128)) (laid.gotos s state (x - 128) (nonterminal_of t x laid sy h)) (λ q. k (e ∙ q))))
+
+  pub goto-none : 128 ≤ x → (g : ℕ) → g ≡ goto t s (x - 128) → g ≡ 255 → Target t s x None
+  goto-none h g e k = rw (le-ltb x 128 h) (sym e ∙ k)
 
 -- ---- condition 4 at an item that is not complete, at one that does not hold a, at one that is and does
 

@@ -1,4 +1,6 @@
 -- What is judged of one state of a table sheet: where it lies, its productions, and each state condition at it.
+pub mod View
+pub mod All
 pub mod Places
 pub mod Finding
 pub mod Items

@@ -1,10 +1,11 @@
 -- Where a state of a sheet well laid out lies, and the order of its items: they rise by one number, 16 · production + dot, so that
 -- (p,d) stands at one item at most.
 use Rattle.std.specs.Prelude.{◌≡◌, refl, Bool, true, false, List, ℕ, zero, suc, ◌+◌, ◌-◌, ◌*◌, ◌≤◌, ◌<◌, ltb, length, get_or}
-use Rattle.std.proofs.Common.{◌∙◌, inl, inr, arith, ltb-true, ltb-false}
-use Rattle.definitions.specs.Sheet.{word, P, S, state_at, count, item_at, prod, dot, Rises, Layout}
-use Rattle.sheet.specs.Places.{count_at}
+use Rattle.std.proofs.Props.{props}
+use Rattle.std.proofs.Common.{inl, inr, arith, ltb-true, ltb-false}
+use Rattle.definitions.specs.Sheet.{P, S, len, state_at, count, item_at, prod, dot, Rises, Layout}
 use Rattle.sheet.specs.Within.{item_within}
+use Rattle.sheet.specs.Once.{Layout-prop}
 
 -- state s of the sheet t, well laid out, stands at place at and has n items
 pub record Lies (t : List ℕ) (s at n : ℕ) : Type 0 where
@@ -12,6 +13,10 @@ pub record Lies (t : List ℕ) (s at n : ℕ) : Type 0 where
   pub state : s < S t
   pub place : at ≡ state_at t s
   pub many : n ≡ count t s
+
+-- in one way, so that a type can hold it
+pub Lies-prop : (t : List ℕ) (s at n : ℕ) → IsProp (Lies t s at n)
+Lies-prop t s at n = Prim.hlevel (props, Layout-prop)
 
 -- the places of the states, and the sheet's end
 abbrev pub Starts : List ℕ → List ℕ → Type 0
@@ -21,10 +26,6 @@ Starts t starts = (s : ℕ) → s ≤ S t → get_or starts s 0 ≡ state_at t s
 pub record IsItem (t : List ℕ) (s i p d : ℕ) : Type 0 where
   pub production : p ≡ prod t s i
   pub place : d ≡ dot t s i
-
--- a state at its place
-pub lies_at : {t : List ℕ} {s at n : ℕ} → Layout t → s < S t → at ≡ state_at t s → n ≡ word t at → Lies t s at n
-lies_at {t} {s} {at} l h e k = record { laid = l; state = h; place = e; many = k ∙ count_at t at s e }
 
 -- where item i of the state stands, within the sheet
 pub item_place : {t : List ℕ} {s at n : ℕ} → Lies t s at n → (i : ℕ) → i < n → (at + (2 + 10 * i) ≡ item_at t s i) × (item_at t s i + 10 ≤ length t)
@@ -84,6 +85,9 @@ module _ {t : List ℕ} {s at n : ℕ} (l : Lies t s at n) (i : ℕ) (h : i < n)
 
   pub below : (prod t s i < P t) × (P t ≤ 200)
   below = (named t l.laid s l.state i listed, l.laid.head.productions.1)
+
+  pub within_length : dot t s i ≤ len t (prod t s i)
+  within_length = ((l.laid.states s l.state).items i listed).place
 
   pub short : dot t s i ≤ 8
   short = dot_short t l.laid s l.state i listed

@@ -1,14 +1,13 @@
 -- Condition 5 at a state, from three sets: the terminals and the nonterminals after its dots, and what its complete items look
 -- ahead to. Beside conditions 1 and 4 this weaker test says all that condition 5 does.
-use Rattle.std.specs.Prelude.{◌≡◌, refl, Bool, List, ◌⊎◌, ℕ, zero, suc, ◌+◌, ◌-◌, ◌^◌, ◌≤◌, ◌<◌}
+use Rattle.std.specs.Prelude.{◌≡◌, refl, Bool, List, ◌⊎◌, ℕ, zero, suc, ◌+◌, ◌-◌, ◌^◌, ◌≤◌, ◌<◌, Some, None}
 use Rattle.std.proofs.Common.{sym, subst, ◌∙◌, inl, inr, arith, lt-ltb, le-ltb, le-leb}
 use Rattle.std.proofs.Math.Path.{subst⁻¹}
-use Rattle.std.proofs.lemmas.Bool.{lt-leb}
 use Rattle.definitions.specs.Sheet.{T, N, S, len, action, goto, prod, dot, ahead, count, symbol, IsAction, Layout}
 use Rattle.definitions.specs.States.{Holds, HasItem, In, Symbol, target, Goes, Reduces, Condition5}
 use Rattle.theory.specs.Check.Says.{Says, says_as}
 use Rattle.terminals.specs.Members.{one_is}
-use Rattle.states.specs.Items.{shift_of, Condition4At}
+use Rattle.states.specs.Items.{shift_of, shift_some, shift_none, no_shift, Condition4At}
 use Rattle.states.specs.Gathering.{Among, AfterTerminal, AfterNonterminal, Done}
 
 -- what is tested of the action on a, and of the goto on n
@@ -93,40 +92,49 @@ module _ (t : List ℕ) (laid : Layout t) (s : ℕ) (state : s < S t) (a : ℕ) 
   small : a < 128
   small = let z = laid.head.terminals.1 in omega arith
 
-  goes_is : target t s a ≡ shift_of (action t s a)
-  goes_is = rw (lt-ltb a 128 small)
-
-  no_shift : (w : ℕ) → (w ≤ 1) ⊎ (512 ≤ w) → shift_of w ≡ 255
-  no_shift w (inl h) = simp (lt-leb 256 w (omega arith))
-  no_shift w (inr h) = simp (le-leb 256 w (omega arith), le-ltb w 512 h)
+  no_shift_is : (action t s a < 256) ⊎ (512 ≤ action t s a) → target t s a ≡ 255
+  no_shift_is w = rw (lt-ltb a 128 small) (no_shift (action t s a) w)
 
   pub action-none : action t s a ≡ 0 → WeakAction t s a
-  action-none e = record { shifts = λ g. absurd (g (goes_is ∙ no_shift (action t s a) (inl (omega arith)))); ends = end }
+  action-none e = record { shifts = λ g. absurd (g (no_shift_is (inl (omega arith)))); ends = end }
     where
       end : (512 ≤ action t s a) ⊎ (action t s a ≡ 1) → Among (Done t s) (count t s) a
       end (inl h) = absurd (omega arith)
       end (inr h) = absurd (omega arith)
 
-  pub action-shift : {b : Bool} → (shift_of (action t s a) ≡ 255 → ⊥) → Says b (Among (AfterTerminal t s) (count t s) a) → Says b (WeakAction t s a)
-  action-shift g y = says_as y (λ r. record { shifts = λ q. r; ends = end }) (λ w. w.shifts (λ q. g (sym goes_is ∙ q)))
+  pub action-shift : {b : Bool} (u : ℕ) → shift_of (action t s a) ≡ Some u → Says b (Among (AfterTerminal t s) (count t s) a) → Says b (WeakAction t s a)
+  action-shift u e y = says_as y (λ r. record { shifts = λ q. r; ends = end }) (λ w. w.shifts goes)
     where
-      end : (512 ≤ action t s a) ⊎ (action t s a ≡ 1) → Among (Done t s) (count t s) a
-      end (inl h) = absurd (g (no_shift (action t s a) (inr h)))
-      end (inr h) = absurd (g (no_shift (action t s a) (inl (omega arith))))
+      k : (256 ≤ action t s a) × (action t s a < 512) × (u ≡ action t s a - 256)
+      k = shift_some (action t s a) u e
 
-  pub action_end : {b : Bool} → (action t s a ≡ 0 → ⊥) → shift_of (action t s a) ≡ 255 → Says b (Among (Done t s) (count t s) a) → Says b (WeakAction t s a)
-  action_end g e y = says_as y (λ r. record { shifts = λ q. absurd (q (goes_is ∙ e)); ends = λ q. r }) (λ w. w.ends (which (laid.actions s state a known)))
+      shift_inside : IsAction t (action t s a) → action t s a - 256 < S t
+      shift_inside (inl (inl h)) = absurd (omega (arith, k.0))
+      shift_inside (inl (inr h)) = let c = h.1 in omega (arith, k.0)
+      shift_inside (inr h) = let c = h.0 in absurd (omega (arith, k.1))
+
+      goes : Goes t s a
+      goes q =
+          let z : target t s a ≡ action t s a - 256 = rw (lt-ltb a 128 small) (simp (le-leb 256 (action t s a) k.0, lt-ltb (action t s a) 512 k.1)) in
+          let m = laid.head.states.1 in let i = shift_inside (laid.actions s state a known) in omega (arith, k.0, k.1)
+
+      end : (512 ≤ action t s a) ⊎ (action t s a ≡ 1) → Among (Done t s) (count t s) a
+      end (inl h) = absurd (omega (arith, k.1))
+      end (inr h) = absurd (omega (arith, k.0))
+
+  pub action_end : {b : Bool} → (action t s a ≡ 0 → ⊥) → shift_of (action t s a) ≡ None → Says b (Among (Done t s) (count t s) a) → Says b (WeakAction t s a)
+  action_end g e y =
+      says_as y (λ r. record { shifts = λ q. absurd (q (no_shift_is (shift_none (action t s a) e))); ends = λ q. r })
+      (λ w. w.ends (which (laid.actions s state a known) (shift_none (action t s a) e)))
     where
-      which : IsAction t (action t s a) → (512 ≤ action t s a) ⊎ (action t s a ≡ 1)
-      which (inl (inl h)) = inr (not_none (action t s a) h g)
+      which : IsAction t (action t s a) → (action t s a < 256) ⊎ (512 ≤ action t s a) → (512 ≤ action t s a) ⊎ (action t s a ≡ 1)
+      which (inl (inl h)) k = inr (not_none (action t s a) h g)
         where
           not_none : (w : ℕ) → w ≤ 1 → (w ≡ 0 → ⊥) → w ≡ 1
           not_none w k f = omega arith
-      which (inl (inr h)) =
-          let u = h.0 in let v = h.1 in let z = laid.head.states.1 in
-          let q : shift_of (action t s a) ≡ action t s a - 256 = simp (le-leb 256 (action t s a) u, lt-ltb (action t s a) 512 (omega arith)) in
-          absurd (omega arith)
-      which (inr h) = inl h.0
+      which (inl (inr h)) (inl k) = let u = h.0 in absurd (omega arith)
+      which (inl (inr h)) (inr k) = let v = h.1 in let z = laid.head.states.1 in absurd (omega arith)
+      which (inr h) k = inl h.0
 
 -- the goto on n: none, some
 module _ (t : List ℕ) (s n : ℕ) where

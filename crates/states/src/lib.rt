@@ -1,9 +1,11 @@
-// One state of a sheet well laid out, judged: each function answers what one of the state conditions says of it. `s` is the state,
-// `at` its place in the sheet and `n` the count of its items; the productions are lent as rows of symbols, lengths and left sides.
+// One state of a sheet well laid out, judged: each method of `State` answers what one of the state conditions says of it.
 #![tactic(auto)]
 
 // the states and their items
 pub mod items;
+
+// sets gathered over the items
+pub mod gathering;
 
 // conditions 3 to 5: where the items lead
 pub mod moves;

@@ -1,6 +1,6 @@
--- What the codes of a state tell: 0 where what is asked holds, else the number of a condition that is broken.
-use Rattle.std.specs.Prelude.{◌≡◌, refl, Bool, List, ℕ, ◌+◌, ◌<◌}
-use Rattle.std.proofs.Common.{subst, ◌∙◌, inl, inr}
+-- What the answers of a state tell: that what is asked holds, or a condition that is broken, by its number.
+use Rattle.std.specs.Prelude.{◌≡◌, refl, Bool, List, ℕ, ◌+◌, ◌<◌, Result, Ok, Err}
+use Rattle.std.proofs.Common.{subst, inl, inr}
 use Rattle.std.proofs.Math.Path.{subst⁻¹}
 use Rattle.definitions.specs.Sheet.{T, N, S, count, Layout}
 use Rattle.definitions.specs.Grammar.{GrammarRules}
@@ -16,19 +16,15 @@ use Rattle.states.specs.Dots as dots
 use Rattle.states.specs.Dots.{Condition6At}
 use Rattle.states.specs.Chains as chains
 use Rattle.states.specs.Chains.{Condition7At}
+use Rattle.table.specs.declared.Condition.{Condition}
+use Rattle.table.specs.Conditions.{condition}
 use Rattle.table.specs.Needs as needs
 use Rattle.table.specs.Needs.{Condition2At}
 
--- what the code r tells: A where it is 0, else B of it
-pub record Tells (A : Type 0) (B : ℕ → Type 0) (r : ℕ) : Type 0 where
-  pub none : r ≡ 0 → A
-  pub some : (r ≡ 0 → ⊥) → B r
-
-pub tells_none : {A : Type 0} {B : ℕ → Type 0} → A → Tells A B 0
-tells_none a = record { none = λ e. a; some = λ g. absurd (g refl) }
-
-pub tells_some : {A : Type 0} {B : ℕ → Type 0} (r : ℕ) → (r ≡ 0 → ⊥) → B r → Tells A B r
-tells_some r g b = record { none = λ e. absurd (g e); some = λ h. b }
+-- what an answer tells: A where nothing is broken, else B of the number of a condition
+abbrev pub Tells : Type 0 → (ℕ → Type 0) → Result (Unit {0}) Condition → Type 0
+Tells A B (Ok u) = A
+Tells A B (Err c) = B (condition c)
 
 -- ---- the transitions of a state
 
@@ -39,10 +35,10 @@ pub record Into (t : List ℕ) (s x : ℕ) : Type 0 where
 pub into_none : {t : List ℕ} {s x : ℕ} → target t s x ≡ 255 → Into t s x
 into_none e = record { enters = λ g. absurd (g e) }
 
-pub into_told : {t : List ℕ} {s x u : ℕ} {b : Bool} → u ≡ target t s x → (u ≡ 255 → ⊥) → Says b (Condition6At t s x u) → Says b (Into t s x)
+pub into_told : {t : List ℕ} {s x u : ℕ} {b : Bool} → u ≡ target t s x → Goes t s x → Says b (Condition6At t s x u) → Says b (Into t s x)
 into_told {t} {s} {x} e g w = says_as w
     (λ f. record { enters = λ h. subst (λ (u : ℕ). Condition6At t s x u) e f })
-    (λ f. subst⁻¹ (λ (u : ℕ). Condition6At t s x u) e (f.enters (λ q. g (e ∙ q))))
+    (λ f. subst⁻¹ (λ (u : ℕ). Condition6At t s x u) e (f.enters g))
 
 -- condition 6 at s
 pub record Condition6From (t : List ℕ) (s : ℕ) : Type 0 where
@@ -57,38 +53,27 @@ pub fails_more : {A B C D : Type 0} {r : ℕ} → (C → A) → (D → B) → Fa
 fails_more f g (five h) = five (λ c. h (f c))
 fails_more f g (six h) = six (λ d. h (g d))
 
--- what a code of transitions tells
-abbrev pub Moves : Type 0 → Type 0 → ℕ → Type 0
+-- what an answer on transitions tells
+abbrev pub Moves : Type 0 → Type 0 → Result (Unit {0}) Condition → Type 0
 Moves A B = Tells (A × B) (Fails A B)
 
 -- all of them, from the terminals and the nonterminals
 module _ {t : List ℕ} {s : ℕ} where
-  weak_all : ((a : ℕ) → a < T t → WeakAction t s a) → ((m : ℕ) → m < N t → WeakGoto t s m) → Weak5 t s
+  pub weak_all : ((a : ℕ) → a < T t → WeakAction t s a) → ((m : ℕ) → m < N t → WeakGoto t s m) → Weak5 t s
   weak_all f g = record { actions = f; gotos = g }
 
-  from_all : ((a : ℕ) → a < T t → Into t s a) → ((m : ℕ) → m < N t → Into t s (128 + m)) → Condition6From t s
+  pub from_all : ((a : ℕ) → a < T t → Into t s a) → ((m : ℕ) → m < N t → Into t s (128 + m)) → Condition6From t s
   from_all f g = record { each = go }
     where
       go : (x : ℕ) → Symbol t x → Into t s x
       go x (inl h) = f x h
       go x (inr h) = rw h.2 (g h.0 h.1)
 
-  from_terminals : Condition6From t s → (a : ℕ) → a < T t → Into t s a
+  pub from_terminals : Condition6From t s → (a : ℕ) → a < T t → Into t s a
   from_terminals f a h = f.each a (inl h)
 
-  from_nonterminals : Condition6From t s → (m : ℕ) → m < N t → Into t s (128 + m)
+  pub from_nonterminals : Condition6From t s → (m : ℕ) → m < N t → Into t s (128 + m)
   from_nonterminals f m h = f.each (128 + m) (inr (m, h, refl))
-
-  -- what the actions tell, and the gotos after them
-  pub moves_stop : {r : ℕ} → (r ≡ 0 → ⊥) → Moves ((a : ℕ) → a < T t → WeakAction t s a) ((a : ℕ) → a < T t → Into t s a) r → Moves (Weak5 t s) (Condition6From t s) r
-  moves_stop {r} g m = tells_some r g (fails_more (λ w. w.actions) from_terminals (m.some g))
-
-  pub moves_then : {q r : ℕ} → q ≡ 0 → Moves ((a : ℕ) → a < T t → WeakAction t s a) ((a : ℕ) → a < T t → Into t s a) q
-      → Moves ((m : ℕ) → m < N t → WeakGoto t s m) ((m : ℕ) → m < N t → Into t s (128 + m)) r → Moves (Weak5 t s) (Condition6From t s) r
-  moves_then e m n = record {
-    none = λ z. (weak_all (m.none e).0 (n.none z).0, from_all (m.none e).1 (n.none z).1);
-    some = λ g. fails_more (λ w. w.gotos) from_nonterminals (n.some g);
-  }
 
 -- ---- a state
 
@@ -128,11 +113,10 @@ module _ (t : List ℕ) (laid : Layout t) (rules : GrammarRules t) where
   moves_broken s r o (five h) = fifth (λ f. h (weakly.weak t laid s rules.top.1 o.ends f))
   moves_broken s r o (six h) = sixth h
 
-  pub state_then : {s r : ℕ} → Condition1At t s → Condition7At t s → Condition2At t s → Moves (Weak5 t s) (Condition6From t s) r → Tells (Kept t s) (BrokenAt t s) r
-  state_then {s} {r} a b c m = record {
-    none = λ e. record { one = a; seven = b; two = c; five = (m.none e).0; six = (m.none e).1 };
-    some = λ g. moves_broken s r a (m.some g);
-  }
+  pub state_then : {s : ℕ} → Condition1At t s → Condition7At t s → Condition2At t s
+      → (r : Result (Unit {0}) Condition) → Moves (Weak5 t s) (Condition6From t s) r → Tells (Kept t s) (BrokenAt t s) r
+  state_then a b c (Ok u) m = record { one = a; seven = b; two = c; five = m.0; six = m.1 }
+  state_then {s} a b c (Err e) m = moves_broken s (condition e) a m
 
   -- ---- all states
 

@@ -1,7 +1,8 @@
--- What the check of a whole table goes by: what is lent beside the sheet, condition 2 at a state, what the codes of a state tell,
--- what the search finds, and the answer.
-pub mod Lent
+-- What the check of a whole table goes by: the conditions' numbers, condition 2 at a state, what the answers of a state tell, what the
+-- search finds, the answer, and the refusal that it makes.
+pub mod Conditions
 pub mod Needs
 pub mod Codes
 pub mod Search
 pub mod Answer
+pub mod Refusals

@@ -6,7 +6,6 @@ use Rattle.table.proofs.closure.met.Goals as goal
 
 pub returns : goal.returns
 returns c =
-    let w = c.wide-m.ensures in
-    let l = c.left_at.ensures in
-    met_lent c.args.needs.now c.args.zeros.now c.requires.needs.0 c.requires.needs.1 (w.0 ∙ l.0) (let x = w.0 in let y = l.1 in omega arith)
-    (let x = c.requires.layout.2 in let y = c.requires.layout.0.head.productions.1 in omega arith) c.of-need.ensures c.of.ensures c.within.ensures
+    let l = c.left.ensures in
+    met_lent c.args.needs.now c.args.zeros.now c.requires.needs c.requires.zeros (c.from-m.ensures ∙ l.0) (let x = c.from-m.ensures in let y = l.1 in omega arith)
+    (let x = c.requires.q_bound in let y = c.args.state.now.lies.laid.head.productions.1 in omega arith) c.within.ensures
