@@ -1,18 +1,18 @@
 -- Popping by sizes: the top piece ends where the records do, and its root says how far back it starts; and where a reduction lands.
-use Rattle.std.specs.Prelude.{◌≡◌, refl, List, [], ◌∷◌, ◌++◌, ℕ, suc, ◌+◌, ◌-◌, ◌*◌, ◌≤◌, ◌<◌, length, get_or}
-use Rattle.std.proofs.Common.{sym, ap, ◌∙◌, append_assoc, append-nil, arith, length-append}
+use Rattle.std.specs.Prelude.{◌≡◌, refl, Some, None, Result, Ok, Err, List, [], ◌∷◌, ◌++◌, ℕ, suc, ◌+◌, ◌-◌, ◌*◌, ◌≤◌, ◌<◌, length, get_or, take}
+use Rattle.std.specs.Prelude as Prelude
+use Rattle.std.proofs.Common.{take-take, sym, ap, ◌∙◌, append_assoc, append-nil, arith, length-append}
+use Rattle.std.proofs.Math.Seq.{take-append_seam}
 use Rattle.std.proofs.Math.Option.{Option, none, some}
 use Rattle.definitions.specs.Table.{Table}
 use Rattle.definitions.specs.Tree.{Row, ∅, size}
-use Rattle.definitions.specs.Reading.{Tree, leaf, node, cons, Stack, bot, push, top, held, under, pop, refused, reduction, Turn, on, stop, settle}
+use Rattle.definitions.specs.Reading.{Tree, leaf, node, cons, Stack, bot, push, top, held, under, pop, End, refused, reduction, Turn, on, stop, settle}
 use Rattle.theory.specs.Records.Flat.{wtok, wnod, flat, length-flat}
 use Rattle.theory.specs.Records.FlatStack.{flat_s}
-use Rattle.machine.specs.Room.{size_w, enc, states_at, States, over, Holds, put}
-use Rattle.machine.specs.Laws.{last, inside, flat_push, size-last, length-inside, length-flat_s, size-at, top_state, pushed}
-use Rattle.machine.specs.declared.Landing.{Landing}
-use Rattle.machine.specs.declared.Landing.TheVariants.{On, Nowhere}
-use Rattle.machine.specs.declared.Back.{Back}
-use Rattle.machine.specs.declared.Back.TheVariants.{To, Under}
+use Rattle.machine.specs.Room.{size_w, enc, States, over, Holds, put}
+use Rattle.machine.specs.Laws.{enc-append, length-enc, last, inside, flat_push, size-last, length-inside, length-flat_s, size-at, pushed}
+use Rattle.machine.specs.declared.Stuck.{Stuck}
+use Rattle.machine.specs.declared.Stuck.TheVariants.{NoAction, NoRoom, NoGoto}
 
 -- j of d pieces are still to be popped, and pos nodes are left
 pub record Backing (r : List ℕ) (d : ℕ) (σ : Stack) (j pos : ℕ) : Type 0 where
@@ -56,13 +56,26 @@ none_left {r} {d} {σ} {j} P = by P.kids P.below P.is P.at
     by c (push τ s t) e a = absurd (omega (arith, length-inside t))
 
 -- what a pop of d pieces finds: where they start, or the bottom before that
-abbrev pub Backs : List ℕ → ℕ → Stack → Back → Type 0
-Backs r d σ (To pos) = Backing r d σ 0 pos
-Backs r d σ Under = pop d σ ∅ ≡ under
+abbrev pub Backs : List ℕ → ℕ → Stack → Prelude.Option ℕ → Type 0
+Backs r d σ (Some pos) = Backing r d σ 0 pos
+Backs r d σ None = pop d σ ∅ ≡ under
 
 pub back_size : {r : List ℕ} {n d : ℕ} {σ : Stack} {pos : ℕ} → Holds r n σ → (B : Backing r d σ 0 pos) → n ≡ pos + size B.kids
 back_size {σ = σ} h B =
     omega (arith, h.many, B.at, ap length B.words, length-append (flat_s B.below) (flat B.kids), length-flat B.kids, length-flat_s σ, length-flat_s B.below)
+
+-- the room holds what is left too
+pub popped : {r : List ℕ} {n d : ℕ} {σ : Stack} {pos : ℕ} → Holds r n σ → (B : Backing r d σ 0 pos) → Holds r pos B.below
+popped {r} {n} {pos = pos} h B =
+    let X = enc (flat_s B.below) in
+    let e : 3 * pos ≡ length X = omega (arith, B.at, length-enc (flat_s B.below), length-flat_s B.below) in
+    record {
+      many = B.at;
+      states = B.states;
+      records = sym (take-take (3 * pos) (3 * n) r (omega (arith, back_size h B)))
+          ∙ ap (take (3 * pos)) (h.records ∙ ap enc (sym B.words) ∙ enc-append (flat_s B.below) (flat B.kids))
+          ∙ rw e (take-append_seam X (enc (flat B.kids)));
+    }
 
 -- ---- a reduction over n nodes, with f left to read
 pub record Landed (r : List ℕ) (n : ℕ) (f : Row) (o : Turn) : Type 0 where
@@ -70,29 +83,29 @@ pub record Landed (r : List ℕ) (n : ℕ) (f : Row) (o : Turn) : Type 0 where
   pub is : o ≡ on reduction stack f
   pub holds : Holds r (n + 1) stack
 
-abbrev pub Lands : List ℕ → ℕ → Row → Turn → Landing → Type 0
-Lands r n f o On = Landed r n f o
-Lands r n f o Nowhere = o ≡ stop (refused 10 0)
+-- the definitions' refusal, after i tokens shifted
+abbrev pub stuck_of : ℕ → Stuck → End
+stuck_of i NoAction = refused 7 i
+stuck_of i NoRoom = refused 8 0
+stuck_of i NoGoto = refused 10 0
 
-module _ (G : Table) {r : List ℕ} {n : ℕ} {σ : Stack} (f : Row) (p : ℕ) (h : Holds r n σ) where
-  pub lost : pop (length (G.rhs p)) σ ∅ ≡ under → settle G p f (pop (length (G.rhs p)) σ ∅) ≡ stop (refused 10 0)
-  lost e = rw e refl
+abbrev pub Lands : List ℕ → ℕ → Row → Turn → Result Unit Stuck → Type 0
+Lands r n f o (Ok _) = Landed r n f o
+Lands r n f o (Err e) = (e ≡ NoGoto) × (o ≡ stop (refused 10 0))
 
-  module _ {pos : ℕ} (B : Backing r (length (G.rhs p)) σ 0 pos) {x : Option ℕ} (g : x ≡ G.goto (get_or r (states_at + pos) 0) (G.lhs p)) where
-    state : get_or r (states_at + pos) 0 ≡ top B.below
-    state = rw B.at (top_state B.states)
+module _ (G : Table) {r : List ℕ} {n : ℕ} {σ : Stack} (f : Row) (p : ℕ) (h : Holds r n σ) {pos : ℕ} (B : Backing r (length (G.rhs p)) σ 0 pos)
+    {x : Option ℕ} (g : x ≡ G.goto (top B.below) (G.lhs p)) where
+  pub nowhere : x ≡ none → settle G p f (pop (length (G.rhs p)) σ ∅) ≡ stop (refused 10 0)
+  nowhere z = rw (B.is, ← g, z) refl
 
-    pub nowhere : x ≡ none → settle G p f (pop (length (G.rhs p)) σ ∅) ≡ stop (refused 10 0)
-    nowhere z = rw (B.is, ← state, ← g, z) refl
-
-    pub landed : (s : ℕ) → x ≡ some s → 16384 ≤ length r → n < 2048 → Landed (put r n s (256 + p) 0 (n - pos + 1)) n f (settle G p f (pop (length (G.rhs p)) σ ∅))
-    landed s z long room =
-        let c = B.kids in
-        let v = wnod p (suc (size c)) in
-        let e : n - pos + 1 ≡ suc (size c) = omega (arith, back_size h B) in
-        let k : flat_s (push B.below s (node p c)) ≡ flat_s σ ++ (v ∷ []) = sym (append_assoc (flat_s B.below) (flat c) (v ∷ [])) ∙ ap (◌++ (v ∷ [])) B.words in
-        record {
-          stack = push B.below s (node p c);
-          is = rw (B.is, ← state, ← g, z) refl;
-          holds = rw e (pushed v B.below s (node p c) long room h (omega (arith, back_size h B, B.at)) B.states k);
-        }
+  pub landed : (s : ℕ) → x ≡ some s → 16384 ≤ length r → n < 2048 → Landed (put r n s (256 + p) 0 (n - pos + 1)) n f (settle G p f (pop (length (G.rhs p)) σ ∅))
+  landed s z long room =
+      let c = B.kids in
+      let v = wnod p (suc (size c)) in
+      let e : n - pos + 1 ≡ suc (size c) = omega (arith, back_size h B) in
+      let k : flat_s (push B.below s (node p c)) ≡ flat_s σ ++ (v ∷ []) = sym (append_assoc (flat_s B.below) (flat c) (v ∷ [])) ∙ ap (◌++ (v ∷ [])) B.words in
+      record {
+        stack = push B.below s (node p c);
+        is = rw (B.is, ← g, z) refl;
+        holds = rw e (pushed v B.below s (node p c) long room h (omega (arith, back_size h B, B.at)) B.states k);
+      }

@@ -1,5 +1,6 @@
 -- What the code's actions and gotos stand for, and what the table says beyond the sheet's states, terminals and nonterminals.
-use Rattle.std.specs.Prelude.{◌≡◌, Bool, ◌&&◌, List, ℕ, ◌≤◌}
+use Rattle.std.specs.Prelude.{◌≡◌, Bool, ◌&&◌, List, ℕ, ◌≤◌, Some, None}
+use Rattle.std.specs.Prelude as Prelude
 use Rattle.std.proofs.Math.Path.{refl}
 use Rattle.std.proofs.Math.Bool.{true, false, cond}
 use Rattle.std.proofs.Math.Option.{Option, none, some}
@@ -11,8 +12,6 @@ use Rattle.definitions.specs.Table as Table
 use Rattle.definitions.specs.Table.{err, acc, sh, red, act_of, goto_of, table_of}
 use Rattle.machine.specs.declared.Act.{Act}
 use Rattle.machine.specs.declared.Act.TheVariants.{Error, Accept, Shift, Reduce}
-use Rattle.machine.specs.declared.Goto.{Goto}
-use Rattle.machine.specs.declared.Goto.TheVariants.{To, Nowhere}
 
 abbrev pub act_is : Act → Table.Act
 act_is Error = err
@@ -20,9 +19,9 @@ act_is Accept = acc
 act_is (Shift s) = sh s
 act_is (Reduce p) = red p
 
-abbrev pub goto_is : Goto → Option ℕ
-goto_is (To s) = some s
-goto_is Nowhere = none
+abbrev pub goto_is : Prelude.Option ℕ → Option ℕ
+goto_is (Some s) = some s
+goto_is None = none
 
 module _ (t : List ℕ) where
   pub act_states : (s a : ℕ) → S t ≤ s → (table_of t).act s a ≡ err

@@ -1,14 +1,15 @@
 -- The turn of a token or the end mark: what stands next, and what each outcome of the code says of the definitions' turn.
-use Rattle.std.specs.Prelude.{◌≡◌, refl, List, ℕ, suc, ◌+◌, ◌-◌, ◌≤◌, ◌<◌, length}
+use Rattle.std.specs.Prelude.{◌≡◌, refl, Result, Ok, Err, List, ℕ, suc, ◌+◌, ◌-◌, ◌≤◌, ◌<◌, length}
 use Rattle.std.proofs.Common.{◌∙◌, arith}
-use Rattle.definitions.specs.Table.{Act, err, acc, sh, red, Table}
+use Rattle.definitions.specs.Table.{Act, err, acc, sh, red, Table, table_of}
 use Rattle.definitions.specs.Tree.{mk, Row, ∅, tok}
 use Rattle.definitions.specs.Reading.{leaf, Stack, push, top, shifted, pop, taken, refused, token_shift, Turn, on, stop, settle, plain}
 use Rattle.definitions.specs.Moves.{turn}
 use Rattle.machine.specs.Room.{Holds}
-use Rattle.machine.specs.Back.{Landed}
-use Rattle.machine.specs.declared.Step.{Step}
-use Rattle.machine.specs.declared.Step.TheVariants.{Shifted, Reduced, Taken, NoAction, NoRoom, NoGoto}
+use Rattle.machine.specs.Back.{stuck_of, Landed}
+use Rattle.machine.specs.declared.Stuck.{Stuck}
+use Rattle.machine.specs.declared.Move.{Move}
+use Rattle.machine.specs.declared.Move.TheVariants.{Shifted, Reduced, Taken}
 
 -- what stands next in f: a token with its terminal and its identity, or the end mark, whose terminal is 0
 pub data Stands : Row → ℕ → ℕ → Type 0 where
@@ -24,13 +25,11 @@ pub record Took (r : List ℕ) (n : ℕ) (σ : Stack) (f : Row) (k i : ℕ) (o :
   pub holds : Holds r (n + 1) (push σ state (leaf (mk k i)))
 
 -- the turn o over n nodes, by the code's outcome
-abbrev pub Did : List ℕ → ℕ → Stack → Row → ℕ → ℕ → Turn → Step → Type 0
-Did r n σ f k i o Shifted = Took r n σ f k i o × (n < 2048)
-Did r n σ f k i o Reduced = Landed r n f o × (n < 2048)
-Did r n σ f k i o Taken = (o ≡ stop (taken σ)) × Holds r n σ
-Did r n σ f k i o NoAction = o ≡ stop (refused 7 (shifted σ))
-Did r n σ f k i o NoRoom = o ≡ stop (refused 8 0)
-Did r n σ f k i o NoGoto = o ≡ stop (refused 10 0)
+abbrev pub Did : List ℕ → ℕ → Stack → Row → ℕ → ℕ → Turn → Result Move Stuck → Type 0
+Did r n σ f k i o (Ok Shifted) = Took r n σ f k i o × (n < 2048)
+Did r n σ f k i o (Ok Reduced) = Landed r n f o × (n < 2048)
+Did r n σ f k i o (Ok Taken) = (o ≡ stop (taken σ)) × Holds r n σ
+Did r n σ f k i o (Err e) = o ≡ stop (stuck_of (shifted σ) e)
 
 turn-plain : {f : Row} {k i : ℕ} (G : Table) (m : ℕ) (σ : Stack) → Stands f k i → turn G m σ f ≡ plain G m (G.act (top σ) k) σ f
 turn-plain G m σ (token h) = refl
@@ -76,3 +75,8 @@ module _ (G : Table) (n : ℕ) (σ : Stack) {f : Row} {k i : ℕ} (N : Stands f 
 
   pub lands : {r : List ℕ} {p : ℕ} → x ≡ red p → n < 2048 → Landed r n f (settle G p f (pop (length (G.rhs p)) σ ∅)) → Landed r n f (turn G (2048 - n) σ f)
   lands z l L = record { stack = L.stack; is = reduces z l ∙ L.is; holds = L.holds }
+
+-- what the action x, which is no reduction, comes to on the terminal k, of identity i, over the rows r and, after it, r'
+abbrev pub Takes : List ℕ → List ℕ → ℕ → Act → ℕ → ℕ → Result Move Stuck → Type 0
+Takes r r' n x k i o =
+    (t : List ℕ) (σ : Stack) (f : Row) → Holds r n σ → Stands f k i → x ≡ (table_of t).act (top σ) k → ((p : ℕ) → x ≡ red p → ⊥) → Did r' n σ f k i (turn (table_of t) (2048 - n) σ f) o

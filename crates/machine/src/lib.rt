@@ -12,9 +12,10 @@ ghost use Rattle.definitions.specs.Answers.{cleared};
 ghost use Rattle.machine.specs.Lookups.{act_is, goto_is};
 ghost use Rattle.machine.specs.Room.{Holds, put, states_end};
 ghost use Rattle.machine.specs.Back.{Backs, Lands};
-ghost use Rattle.machine.specs.Steps.{Stands, Did};
+ghost use Rattle.machine.specs.Steps.{Stands, Did, Takes};
 
 // ---- the room's layout: 0 to 6,143 the records of the nodes held, three words each; 6,144 to 8,192 the state after the first p nodes
+// Document 01 has the room lent as words, so records and states are parts of one row and no arrays of structs.
 
 // How many nodes may be held.
 pub const NODES: usize = 2048;
@@ -31,7 +32,7 @@ pub const ROOM: usize = 16384;
 // ---- the table's moves
 
 // An action: the state that a shift leads to, the production that a reduction is by.
-#[derive(Clone, Copy)]
+#[derive(Clone, Copy, PartialEq, Eq, Debug)]
 pub enum Act {
     Error,
     Accept,
@@ -39,27 +40,18 @@ pub enum Act {
     Reduce(u32),
 }
 
-// A goto: a state, or none.
-#[derive(Clone, Copy)]
-pub enum Goto {
-    To(u32),
-    Nowhere,
-}
+impl From<u32> for Act {
+    ghost from_gives = { λ w r. act_is r ≡ act_of w };
 
-// What an action word says.
-fn said(w: u32) -> Act
-    ensures { act_is result ≡ act_of w }
-{
-    if w == 1 {
-        return Act::Accept;
+    // What an action word says.
+    fn from(w: u32) -> Act {
+        match w {
+            1 => Act::Accept,
+            256..512 => Act::Shift(w - 256),
+            512.. => Act::Reduce(w - 512),
+            _ => Act::Error,
+        }
     }
-    if 512 <= w {
-        return Act::Reduce(w - 512);
-    }
-    if 256 <= w {
-        return Act::Shift(w - 256);
-    }
-    Act::Error
 }
 
 // The action of state s on terminal a: error beyond the table's states and terminals.
@@ -67,37 +59,29 @@ pub fn act_of(t: &[u8], s: usize, a: usize) -> Act
     requires { Layout t.now }
     ensures { act_is result ≡ (table_of t.now).act s a }
 {
-    if s >= sheet::states_of(t) {
+    if s >= sheet::states_of(t) || a >= sheet::terminals_of(t) {
         return Act::Error;
     }
-    if a >= sheet::terminals_of(t) {
-        return Act::Error;
-    }
-    said(sheet::action(t, s, a))
-}
-
-// What a goto byte says.
-fn led(g: u8) -> Goto
-    ensures { goto_is result ≡ goto_of g }
-{
-    if g == 255 {
-        return Goto::Nowhere;
-    }
-    Goto::To(g as u32)
+    Act::from(sheet::action(t, s, a))
 }
 
 // The goto of state s on nonterminal n: none beyond the table's states and nonterminals.
-pub fn goto_of(t: &[u8], s: usize, n: usize) -> Goto
+// One function for this and act_of would take their four readings of the sheet as closures, and be longer than the two.
+pub fn goto_of(t: &[u8], s: usize, n: usize) -> Option<u32>
     requires { Layout t.now }
     ensures { goto_is result ≡ (table_of t.now).goto s n }
 {
-    if s >= sheet::states_of(t) {
-        return Goto::Nowhere;
-    }
-    if n >= sheet::nonterminals_of(t) {
-        return Goto::Nowhere;
+    if s >= sheet::states_of(t) || n >= sheet::nonterminals_of(t) {
+        return None;
     }
     led(sheet::goto_byte(t, s, n))
+}
+
+// What a goto byte says.
+fn led(g: u8) -> Option<u32>
+    ensures { goto_is result ≡ goto_of g }
+{
+    if g == 255 { None } else { Some(u32::from(g)) }
 }
 
 // The left side of production p.
@@ -105,7 +89,7 @@ pub fn left_of(t: &[u8], p: usize) -> usize
     requires { Layout t.now × (p < P t.now) }
     ensures { result ≡ (table_of t.now).lhs p }
 {
-    sheet::wide(sheet::left(t, p))
+    usize::from(sheet::left(t, p))
 }
 
 // The length of its right side.
@@ -113,14 +97,13 @@ pub fn length_of(t: &[u8], p: usize) -> usize
     requires { Layout t.now × (p < P t.now) }
     ensures { result ≡ length ((table_of t.now).rhs p) }
 {
-    sheet::wide(sheet::len(t, p))
+    usize::from(sheet::len(t, p))
 }
 
 // ---- the stack
 
 // The empty stack: the state after no nodes is 0.
-pub fn begin(room: &mut [u32])
-    requires { 16384 ≤ length room.old }
+pub fn begin(room: &mut [u32; ROOM])
     ensures holds { Holds room.new 0 bot }
     ensures room_unchanged { drop states_end room.new ≡ drop states_end room.old }
 {
@@ -128,16 +111,17 @@ pub fn begin(room: &mut [u32])
 }
 
 // The state on top of n nodes.
-pub fn top(room: &[u32], n: usize) -> usize
-    requires { (16384 ≤ length room.now) × (n ≤ 2048) }
+pub fn top(room: &[u32; ROOM], n: usize) -> usize
+    requires { n ≤ 2048 }
     ensures { (σ : Stack) → Holds room.now n σ → result ≡ top σ }
 {
     room[STATES + n] as usize
 }
 
-// A node's three words, and the state after it.
-pub fn put(room: &mut [u32], n: usize, s: u32, kind: u32, number: u32, size: u32)
-    requires { (16384 ≤ length room.old) × (n < 2048) }
+// A node's three words, and the state after it. A struct of the three would be made only to be taken apart here.
+// Copied from an array by copy_from_slice they cost twelve instructions more a node.
+pub fn put(room: &mut [u32; ROOM], n: usize, s: u32, kind: u32, number: u32, size: u32)
+    requires { n < 2048 }
     ensures room_after { room.new ≡ put room.old n s kind number size }
     ensures room_unchanged { drop states_end room.new ≡ drop states_end room.old }
 {
@@ -148,89 +132,96 @@ pub fn put(room: &mut [u32], n: usize, s: u32, kind: u32, number: u32, size: u32
 }
 
 // A token shifted to state s: its terminal and its identity.
-pub fn shift(room: &mut [u32], n: usize, s: u32, kind: u32, number: u32)
-    requires { (16384 ≤ length room.old) × (n < 2048) }
+pub fn shift(room: &mut [u32; ROOM], n: usize, s: u32, kind: u32, number: u32)
+    requires { n < 2048 }
     ensures holds { (σ : Stack) → Holds room.old n σ → Holds room.new (n + 1) (push σ s (leaf (mk kind number))) }
     ensures room_unchanged { drop states_end room.new ≡ drop states_end room.old }
 {
     put(room, n, s, kind, number, 1);
 }
 
-// What lies under some pieces: so many nodes, or the bottom comes first.
-#[derive(Clone, Copy)]
-pub enum Back {
-    To(usize),
-    Under,
-}
-
-// Where the top d of the n nodes' pieces start, by the sizes of their roots.
-pub fn pop_to(room: &[u32], n: usize, d: usize) -> Back
-    requires { (16384 ≤ length room.now) × (n ≤ 2048) × ((σ : Stack) × Holds room.now n σ) }
+// Where the top d of the n nodes' pieces start, by the sizes of their roots: none where the bottom comes first.
+pub fn pop_to(room: &[u32; ROOM], n: usize, d: usize) -> Option<usize>
+    requires { (n ≤ 2048) × ((σ : Stack) × Holds room.now n σ) }
     ensures { (σ : Stack) → Holds room.now n σ → Backs room.now d σ result }
 {
     let mut pos = n;
-    let mut j = d;
-    while 0 < j {
-        if pos == 0 {
-            return Back::Under;
-        }
-        let s = room[3 * pos - 1] as usize;
-        pos = pos - s;
-        j -= 1;
+    for _ in 0..d {
+        let last = pos.checked_sub(1)?;
+        pos -= room[3 * last + 2] as usize;
     }
-    Back::To(pos)
+    Some(pos)
 }
 
-// Whether a reduction finds its pieces and a goto.
-#[derive(Clone, Copy)]
-pub enum Landing {
-    On,
-    Nowhere,
+// Why a turn stops.
+#[derive(Clone, Copy, PartialEq, Eq, Debug)]
+pub enum Stuck {
+    // the action is error
+    NoAction,
+    NoRoom,
+    // a reduction pops below the bottom or finds no goto
+    NoGoto,
 }
 
 // A reduction by p over n nodes, with room for one more.
-pub fn reduce(t: &[u8], room: &mut [u32], n: usize, p: usize) -> Landing
-    requires { Layout t.now × (16384 ≤ length room.old) × (n < 2048) × (p < P t.now) × ((σ : Stack) × Holds room.old n σ) }
+pub fn reduce(t: &[u8], room: &mut [u32; ROOM], n: usize, p: usize) -> Result<(), Stuck>
+    requires { Layout t.now × (n < 2048) × (p < P t.now) × ((σ : Stack) × Holds room.old n σ) }
     ensures lands { (σ : Stack)
         → Holds room.old n σ
         → (f : Row)
         → Lands room.new n f (settle (table_of t.now) p f (pop (length ((table_of t.now).rhs p)) σ ∅)) result }
     ensures room_unchanged { drop states_end room.new ≡ drop states_end room.old }
 {
-    let b = pop_to(room, n, length_of(t, p));
-    match b {
-        Back::Under => Landing::Nowhere,
-        Back::To(pos) => {
-            let s = room[STATES + pos] as usize;
-            let g = goto_of(t, s, left_of(t, p));
-            match g {
-                Goto::Nowhere => Landing::Nowhere,
-                Goto::To(to) => {
-                    put(room, n, to, (256 + p) as u32, 0, (n - pos + 1) as u32);
-                    Landing::On
-                }
-            }
-        }
-    }
+    let pos = pop_to(room, n, length_of(t, p)).ok_or(Stuck::NoGoto)?;
+    let to = goto_of(t, top(room, pos), left_of(t, p)).ok_or(Stuck::NoGoto)?;
+    put(room, n, to, (256 + p) as u32, 0, (n - pos + 1) as u32);
+    Ok(())
 }
 
 // ---- a turn
 
-// What the turn of a token or the end mark comes to: one node more, accepted, or the refusal.
-#[derive(Clone, Copy)]
-pub enum Step {
+// What the turn of a token or the end mark comes to: one node more, or accepted.
+#[derive(Clone, Copy, PartialEq, Eq, Debug)]
+pub enum Move {
     Shifted,
     Reduced,
     Taken,
-    NoAction,
-    NoRoom,
-    NoGoto,
+}
+
+// What an action that is no reduction comes to on a token next, by its terminal and its identity, or on the end mark, whose terminal is 0.
+pub fn take(
+    room: &mut [u32; ROOM],
+    n: usize,
+    act: Act,
+    kind: u32,
+    number: u32,
+) -> Result<Move, Stuck>
+    requires { n ≤ 2048 }
+    ensures takes { Takes room.old room.new n (act_is act) kind number result }
+    ensures room_unchanged { drop states_end room.new ≡ drop states_end room.old }
+{
+    match act {
+        Act::Error | Act::Reduce(_) => Err(Stuck::NoAction),
+        Act::Accept => Ok(Move::Taken),
+        Act::Shift(_) if n >= NODES => Err(Stuck::NoRoom),
+        Act::Shift(_) if kind == 0 => Err(Stuck::NoGoto),
+        Act::Shift(to) => {
+            shift(room, n, to, kind, number);
+            Ok(Move::Shifted)
+        }
+    }
 }
 
 // A token next, by its terminal and its identity, or the end mark, whose terminal is 0. The action is looked up first, then the room
 // is judged.
-pub fn plain(t: &[u8], room: &mut [u32], n: usize, kind: u32, number: u32) -> Step
-    requires { Layout t.now × (16384 ≤ length room.old) × (n ≤ 2048) × ((σ : Stack) × Holds room.old n σ) }
+pub fn plain(
+    t: &[u8],
+    room: &mut [u32; ROOM],
+    n: usize,
+    kind: u32,
+    number: u32,
+) -> Result<Move, Stuck>
+    requires { Layout t.now × (n ≤ 2048) × ((σ : Stack) × Holds room.old n σ) }
     ensures did { (σ : Stack)
         → Holds room.old n σ
         → (f : Row)
@@ -238,30 +229,13 @@ pub fn plain(t: &[u8], room: &mut [u32], n: usize, kind: u32, number: u32) -> St
         → Did room.new n σ f kind number (turn (table_of t.now) (2048 - n) σ f) result }
     ensures room_unchanged { drop states_end room.new ≡ drop states_end room.old }
 {
-    let act = act_of(t, top(room, n), kind as usize);
-    match act {
-        Act::Error => Step::NoAction,
-        Act::Accept => Step::Taken,
-        Act::Shift(to) => {
-            if n >= NODES {
-                return Step::NoRoom;
-            }
-            if kind == 0 {
-                return Step::NoGoto;
-            }
-            shift(room, n, to, kind, number);
-            Step::Shifted
-        }
+    match act_of(t, top(room, n), kind as usize) {
+        Act::Reduce(_) if n >= NODES => Err(Stuck::NoRoom),
         Act::Reduce(p) => {
-            if n >= NODES {
-                return Step::NoRoom;
-            }
-            let l = reduce(t, room, n, p as usize);
-            match l {
-                Landing::On => Step::Reduced,
-                Landing::Nowhere => Step::NoGoto,
-            }
+            reduce(t, room, n, p as usize)?;
+            Ok(Move::Reduced)
         }
+        act => take(room, n, act, kind, number),
     }
 }
 
@@ -272,9 +246,5 @@ pub fn wipe(room: &mut [u32])
     requires { 16384 ≤ length room.old }
     ensures { room.new ≡ cleared room.old }
 {
-    let mut i: usize = 0;
-    while i < ROOM {
-        room[i] = 0;
-        i += 1;
-    }
+    room[..ROOM].fill(0);
 }

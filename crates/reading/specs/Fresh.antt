@@ -1,6 +1,6 @@
 -- What the whole call tells: the words of a tree numbered afresh are the room's records with rising numbers, and each answer of the
 -- code is the definitions' answer.
-use Rattle.std.specs.Prelude.{◌≡◌, refl, List, [], ◌∷◌, ◌++◌, ℕ, zero, suc, ◌+◌, ◌*◌, ◌≤◌, ◌<◌, length, drop}
+use Rattle.std.specs.Prelude.{◌≡◌, refl, Result, Ok, Err, List, [], ◌∷◌, ◌++◌, ℕ, zero, suc, ◌+◌, ◌*◌, ◌≤◌, ◌<◌, length, drop}
 use Rattle.std.proofs.Math.Path.{sym, ap}
 use Rattle.std.proofs.Common.{◌∙◌, subst}
 use native.Mathlib.Omega.{arith}
@@ -21,17 +21,30 @@ use Rattle.theory.specs.Records.FlatStack.{flat_s}
 use Rattle.theory.specs.Edits.EditedText.{known_inserted, known_real}
 use Rattle.theory.specs.Answers.{if_yes, if_no}
 use Rattle.theory.specs.Demands.Afresh.{Reads, accepts, fresh_reads}
-use Rattle.answers.specs.Values.{counts_of, value_of}
+use Rattle.answers.specs.Values.{counts_of, value_of, refusal_of, number_of, place_of}
 use Rattle.answers.specs.declared.Counts.{Counts}
-use Rattle.answers.specs.declared.Answer.{Answer}
-use Rattle.answers.specs.declared.Answer.TheVariants.{Accepted as AcceptedWith, NoNumber}
+use Rattle.answers.specs.declared.Refusal.{Refusal}
+use Rattle.answers.specs.declared.Refusal.TheVariants.{Small, Layout, Grammar, States, OldTree, Text, NoAction, NoRoom, NoGoto, NoNumber}
 use Rattle.machine.specs.Room.{kind_w, size_w, enc}
 use Rattle.reading.specs.Write.{rising, rows, rows-rising, inscribed}
-use Rattle.reading.specs.Turns.{counted, Accepts}
+use Rattle.reading.specs.Turns.{end_of, counted, Accepts}
 
 -- the code's answer with the two lent rows afterwards
-abbrev pub told : Answer → List ℕ → List ℕ → Told
+abbrev pub told : Result Counts Refusal → List ℕ → List ℕ → Told
 told a tree room = record { answer = value_of a; tree = tree; room = room }
+
+-- a refusal is its number and its place
+pub refuses_with : (e : Refusal) → refusal_of e ≡ refusal (number_of (refusal_of e)) (place_of (refusal_of e))
+refuses_with Small = refl
+refuses_with Layout = refl
+refuses_with Grammar = refl
+refuses_with States = refl
+refuses_with OldTree = refl
+refuses_with Text = refl
+refuses_with (NoAction i) = refl
+refuses_with NoRoom = refl
+refuses_with NoGoto = refl
+refuses_with NoNumber = refl
 
 -- ---- the words of a tree numbered afresh
 blank_left : (u v : List Tok) → Blank (u ++ v) → Blank u
@@ -89,8 +102,8 @@ module _ (t codes : List ℕ) (first : ℕ) (A : Accepted t) (X : TextInOrder t 
     ends_as : (d : Done) {e : End} {k : Reading.Counts} → d.end ≡ e → d.counts ≡ k → finished tree lent (λ f. number anew f first) d ≡ ending tree lent (λ f. number anew f first) k e
     ends_as d p q = rw (p, q) refl
 
-    pub refuses : {m i : ℕ} → done.end ≡ refused m i → (a : Answer) → value_of a ≡ refusal m i → told a tree (cleared lent) ≡ finished tree lent (λ f. number anew f first) done
-    refuses e a z = rw z (sym (ends_as done e refl))
+    pub refuses : (e : Refusal) → done.end ≡ end_of e → told (Err e) tree (cleared lent) ≡ finished tree lent (λ f. number anew f first) done
+    refuses e q = rw (refuses_with e) (sym (ends_as done q refl))
 
     module _ {r : List ℕ} {n i : ℕ} (R : Accepts r done n i) where
       S : Alone R.stack
@@ -124,11 +137,11 @@ module _ (t codes : List ℕ) (first : ℕ) (A : Accepted t) (X : TextInOrder t 
       unfolding N f
       judged = ends_as done R.is R.counts ∙ ap (λ (σ : Stack). ending tree lent (λ f. number anew f first) (counted n i) (taken σ)) S.is
 
-      pub too_many : 4294967295 < first + n → told NoNumber tree (cleared lent) ≡ finished tree lent (λ f. number anew f first) done
+      pub too_many : 4294967295 < first + n → told (Err NoNumber) tree (cleared lent) ≡ finished tree lent (λ f. number anew f first) done
       too_many h = sym (judged ∙ if_no (dec_le N.1 4294967295) _ _ (λ l. omega (arith, next)))
 
       pub tells : (k : Counts) (tree' : List ℕ) → first + n ≤ 4294967295 → counts_of k ≡ counted n i → tree' ≡ inscribed first r n tree
-          → told (AcceptedWith k) tree' (cleared lent) ≡ finished tree lent (λ f. number anew f first) done
+          → told (Ok k) tree' (cleared lent) ≡ finished tree lent (λ f. number anew f first) done
       tells k tree' h z w =
           let u : written N.0 N.1 ++ drop (2 + 3 * size (erase N.0)) tree ≡ tree' = rw (records, next, many) (sym w) in
           sym (judged ∙ if_yes (dec_le N.1 4294967295) _ _ (omega (arith, next)) ∙ rw (u, ← z) refl)

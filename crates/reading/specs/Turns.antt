@@ -1,21 +1,22 @@
 -- What the code's turns and its end say of the definitions' reading.
-use Rattle.std.specs.Prelude.{◌≡◌, refl, List, ℕ, zero, suc, ◌+◌, ◌-◌, ◌≤◌, ◌<◌, length, drop}
+use Rattle.std.specs.Prelude.{◌≡◌, refl, Result, Ok, Err, List, ℕ, zero, suc, ◌+◌, ◌-◌, ◌≤◌, ◌<◌, length, get_or, drop}
 use Rattle.std.proofs.Common.{sym, ap, ◌∙◌, subst, arith}
+use Rattle.definitions.specs.Sheet.{T}
 use Rattle.definitions.specs.Table.{Table, table_of}
 use Rattle.definitions.specs.Tree.{mk, Row, row, size}
 use Rattle.definitions.specs.Reading.{leaf, Stack, bot, push, shifted, taken, refused, Counts, Move, reduction, token_shift, on, stop}
 use Rattle.definitions.specs.Reading as Reading
 use Rattle.definitions.specs.Moves.{tally, cost, turn, Done, after, read, reading}
-use Rattle.definitions.specs.Edits.{inserted}
+use Rattle.definitions.specs.Edits.{Codes, inserted}
 use Rattle.theory.specs.Machine.Room.{moved}
+use Rattle.answers.specs.declared.Refusal.{Refusal}
+use Rattle.answers.specs.Values.{refusal_of, number_of, place_of}
 use Rattle.machine.specs.Room.{Holds, states_end}
 use Rattle.machine.specs.Back.{Landed}
-use Rattle.machine.specs.Steps.{Took}
-use Rattle.reading.specs.Text.{unread, unread_next}
-use Rattle.reading.specs.declared.End.{End}
-use Rattle.reading.specs.declared.End.TheVariants.{Taken, NoAction, NoRoom, NoGoto}
-use Rattle.reading.specs.declared.Turn.{Turn}
-use Rattle.reading.specs.declared.Turn.TheVariants.{Next, Stop}
+use Rattle.machine.specs.Steps.{Stands, Took, Did}
+use Rattle.machine.specs.declared.Move as Code
+use Rattle.machine.specs.declared.Stuck.{Stuck}
+use Rattle.reading.specs.Text.{unread, unread_next, stands}
 
 -- the counts of a fresh reading that holds n nodes and has shifted i tokens: each other node is one reduction
 abbrev pub counted : ℕ → ℕ → Counts
@@ -30,11 +31,13 @@ pub record Accepts (r : List ℕ) (d : Done) (n i : ℕ) : Type 0 where
   pub low : i ≤ n
   pub holds : Holds r n stack
 
-abbrev pub Ends : List ℕ → Done → End → Type 0
-Ends r d (Taken n i) = Accepts r d n i
-Ends r d (NoAction i) = (d.end ≡ refused 7 i) × (i ≤ 2048)
-Ends r d NoRoom = d.end ≡ refused 8 0
-Ends r d NoGoto = d.end ≡ refused 10 0
+-- the definitions' end of a refusal: its number and place
+abbrev pub end_of : Refusal → Reading.End
+end_of e = refused (number_of (refusal_of e)) (place_of (refusal_of e))
+
+abbrev pub Ends : List ℕ → Done → Result (ℕ × ℕ) Refusal → Type 0
+Ends r d (Ok (n, i)) = Accepts r d n i
+Ends r d (Err e) = d.end ≡ end_of e
 
 -- ---- what a turn does, over n nodes and i tokens shifted
 pub record Going (codes r : List ℕ) (n i : ℕ) (o : Reading.Turn) (i' : ℕ) : Type 0 where
@@ -48,10 +51,6 @@ pub record Going (codes r : List ℕ) (n i : ℕ) (o : Reading.Turn) (i' : ℕ) 
   pub tallied : tally move (counted n i) ≡ counted (n + 1) i'
   pub within : i' ≤ length codes
   pub low : i' ≤ n + 1
-
-abbrev pub Does : List ℕ → List ℕ → ℕ → ℕ → Reading.Turn → Turn → Type 0
-Does codes r n i o (Next i') = Going codes r n i o i'
-Does codes r n i o (Stop e) = (x : Reading.End) × (o ≡ stop x) × Ends r (record { end = x; counts = counted n i }) e
 
 -- ---- a turn that goes on
 module _ (codes : List ℕ) (n : ℕ) (σ : Stack) (i : ℕ) (k : shifted σ ≡ i) (low : i ≤ n) (l : n < 2048) where
@@ -94,7 +93,6 @@ pub record Running (t codes r₀ r : List ℕ) (n i : ℕ) : Type 0 where
   pub small : n ≤ 2048
   pub within : i ≤ length codes
   pub low : i ≤ n
-  pub long : length r ≡ length r₀
   pub rest : drop states_end r ≡ drop states_end r₀
   pub stack : Stack
   pub holds : Holds r n stack
@@ -109,7 +107,6 @@ begins t codes r h =
       small = omega arith;
       within = omega arith;
       low = omega arith;
-      long = refl;
       rest = refl;
       stack = bot;
       holds = h;
@@ -127,7 +124,7 @@ pub read_stop : (G : Table) (m r : ℕ) (k : Counts) (σ : Stack) (f : Row) {e :
 unfolding read
 read_stop G m r k σ f e = ap (after _ k) e
 
-module _ (t codes : List ℕ) {r₀ r : List ℕ} {n i : ℕ} (R : Running t codes r₀ r n i) (r' : List ℕ) where
+module _ (t codes : List ℕ) {r₀ r : List ℕ} {n i : ℕ} (R : Running t codes r₀ r n i) where
   one_more : (m : ℕ) × (R.moves ≡ suc m)
   one_more = by R.moves R.enough
     where
@@ -135,8 +132,17 @@ module _ (t codes : List ℕ) {r₀ r : List ℕ} {n i : ℕ} (R : Running t cod
       by zero l = absurd (omega (arith, R.small))
       by (suc m) l = (m, refl)
 
-  pub goes : {i' : ℕ} → length r' ≡ length r → drop states_end r' ≡ drop states_end r → Going codes r' n i (turn (table_of t) (2048 - n) R.stack (unread codes i)) i' → Running t codes r₀ r' (n + 1) i'
-  goes {i' = i'} l d g =
+  -- what the machine's turn did over what stands next, by the case that the code finds
+  pub turned : (r' : List ℕ) {k : ℕ} {o o' : Result Code.Move Stuck} → Codes (T t) codes → k ≡ get_or codes i 0
+      → ((σ : Stack) → Holds r n σ → (f : Row) → Stands f k 0 → Did r' n σ f k 0 (turn (table_of t) (2048 - n) σ f) o)
+      → o ≡ o' → Did r' n R.stack (unread codes i) k 0 (turn (table_of t) (2048 - n) R.stack (unread codes i)) o'
+  turned r' {k} K e d q =
+      let f = unread codes i in
+      subst (λ (o : Result Code.Move Stuck). Did r' n R.stack f k 0 (turn (table_of t) (2048 - n) R.stack f) o) q
+      (d R.stack R.holds f (subst (λ (x : ℕ). Stands f x 0) (sym e) (stands (T t) codes i K)))
+
+  pub goes : {r' : List ℕ} {i' : ℕ} → drop states_end r' ≡ drop states_end r → Going codes r' n i (turn (table_of t) (2048 - n) R.stack (unread codes i)) i' → Running t codes r₀ r' (n + 1) i'
+  goes {r' = r'} {i' = i'} d g =
       let m = one_more.0 in
       let z = one_more.1 in
       let c : 2048 - n - cost g.move ≡ 2048 - (n + 1) = omega (arith, g.one) in
@@ -145,7 +151,6 @@ module _ (t codes : List ℕ) {r₀ r : List ℕ} {n i : ℕ} (R : Running t cod
         small = omega (arith, g.room);
         within = g.within;
         low = g.low;
-        long = l ∙ R.long;
         rest = d ∙ R.rest;
         stack = g.stack;
         holds = g.holds;
@@ -155,8 +160,5 @@ module _ (t codes : List ℕ) {r₀ r : List ℕ} {n i : ℕ} (R : Running t cod
         left = sym (rw (c, g.tallied) at e) ∙ (rw z at R.left);
       }
 
-  pub ends : (z : End) → (x : Reading.End) × (turn (table_of t) (2048 - n) R.stack (unread codes i) ≡ stop x) × Ends r' (record { end = x; counts = counted n i }) z
-      → Ends r' (reading (table_of t) 2048 (row (inserted codes))) z
-  ends z p =
-      let e = read_stop (table_of t) one_more.0 (2048 - n) (counted n i) R.stack (unread codes i) p.1 in
-      subst (λ (d : Done). Ends r' d z) (sym e ∙ (rw one_more.1 at R.left)) p.2
+  pub ends : {x : Reading.End} → turn (table_of t) (2048 - n) R.stack (unread codes i) ≡ stop x → reading (table_of t) 2048 (row (inserted codes)) ≡ record { end = x; counts = counted n i }
+  ends e = sym (rw one_more.1 at R.left) ∙ read_stop (table_of t) one_more.0 (2048 - n) (counted n i) R.stack (unread codes i) e

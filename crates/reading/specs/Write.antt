@@ -1,8 +1,9 @@
 -- The tree's words off the room's records, numbered upward from the first number, written three at a time.
 use Rattle.std.specs.Prelude.{◌≡◌, refl, List, [], ◌∷◌, ◌++◌, ℕ, zero, suc, ◌+◌, ◌*◌, ◌≤◌, length, get_or, take, drop, set}
-use Rattle.std.proofs.Common.{sym, ap, ◌∙◌, append_assoc, append-nil, add-zero, add-one, arith, length-append, length-drop, take-append-drop, take_at, drop-drop, length-take-le, get_or-drop}
+use Rattle.std.proofs.Common.{sym, ap, ◌∙◌, append_assoc, append-nil, add-zero, add-one, arith, length-append, length-drop, take_at, drop-drop, get_or-drop}
 use Rattle.std.proofs.lemmas.List.Edits.{sets-eq}
-use Rattle.std.proofs.Math.Seq.{drop-append-add}
+use Rattle.std.proofs.lemmas.List.Edits.{paste_all, paste-paste}
+use Rattle.std.proofs.Math.Seq.{paste, drop-append-add}
 use Rattle.theory.specs.Records.Flat.{Word}
 use Rattle.machine.specs.Room.{kind_w, ident_w, size_w, enc}
 
@@ -60,21 +61,25 @@ append3 X t i a b c e h =
     let d : drop (i + 3) (X ++ drop i t) ≡ drop (i + 3) t = ap (λ (n : ℕ). drop (n + 3) (X ++ drop i t)) (sym e) ∙ drop-append-add X (drop i t) 3 ∙ drop-drop 3 i t in
     rw (p, q, sets-eq (a ∷ b ∷ c ∷ []) (X ++ drop i t) i l, take_at X (drop i t) i e, d) refl
 
--- the first j nodes written over a tree whose first two words stand
-abbrev pub sofar : ℕ → List ℕ → List ℕ → ℕ → List ℕ
-sofar a r t j = (take 2 t ++ rows a r j) ++ drop (2 + 3 * j) t
+-- three words written one by one are a block
+pub three : (l : List ℕ) (i a b c : ℕ) → i + 3 ≤ length l → set (set (set l i a) (i + 1) b) (i + 2) c ≡ paste l i (a ∷ b ∷ c ∷ []) 3
+three l i a b c h =
+    let w = a ∷ b ∷ c ∷ [] in
+    let e : i + 1 ≡ suc i = omega arith in
+    let f : i + 2 ≡ suc (suc i) = omega arith in
+    rw (e, f) (sets-eq w l i h ∙ append_assoc (take i l) w (drop (i + 3) l)) ∙ sym (paste_all l i w 3 refl)
 
-pub row_more : (a : ℕ) (r t : List ℕ) (j : ℕ) → 2 + 3 * j + 3 ≤ length t
-    → set (set (set (sofar a r t j) (2 + 3 * j) (get_or r (3 * j) 0)) (2 + 3 * j + 1) (a + j)) (2 + 3 * j + 2) (get_or r (3 * j + 2) 0) ≡ sofar a r t (j + 1)
+-- the first j nodes written over a tree from its third word on
+abbrev pub sofar : ℕ → List ℕ → List ℕ → ℕ → List ℕ
+sofar a r t j = paste t 2 (rows a r j) (3 * j)
+
+pub row_more : (a : ℕ) (r t : List ℕ) (j : ℕ) → 2 ≤ length t
+    → paste (sofar a r t j) (2 + 3 * j) (get_or r (3 * j) 0 ∷ (a + j) ∷ get_or r (3 * j + 2) 0 ∷ []) 3 ≡ sofar a r t (j + 1)
 unfolding rows
 row_more a r t j h =
-    let e : length (take 2 t ++ rows a r j) ≡ 2 + 3 * j = simp length-append (omega (arith, length-rows a r j, length-take-le 2 t (omega arith))) in
-    let d : 2 + 3 * j + 3 ≡ 2 + 3 * suc j = omega arith in
-    append3 (take 2 t ++ rows a r j) t (2 + 3 * j) _ _ _ e h ∙ rw (add-one, d) (ap (◌++ drop (2 + 3 * suc j) t) (append_assoc (take 2 t) (rows a r j) _))
-
-pub sofar-none : (a : ℕ) (r t : List ℕ) → t ≡ sofar a r t 0
-unfolding rows
-sofar-none a r t = sym (take-append-drop 2 t) ∙ ap (◌++ drop 2 t) (sym (append-nil (take 2 t)))
+    let w = get_or r (3 * j) 0 ∷ (a + j) ∷ get_or r (3 * j + 2) 0 ∷ [] in
+    let e : 3 * j + 3 ≡ 3 * suc j = omega arith in
+    paste-paste t 2 (rows a r j) w (3 * j) 3 (sym (length-rows a r j)) refl h ∙ rw (add-one, e) refl
 
 -- n nodes of a row written over a tree: count, next number, records
 abbrev pub inscribed : ℕ → List ℕ → ℕ → List ℕ → List ℕ
@@ -83,4 +88,6 @@ inscribed a r n tree = (n ∷ (a + n) ∷ rows a r n) ++ drop (2 + 3 * n) tree
 pub sofar_all : (a : ℕ) (r t : List ℕ) (n : ℕ) → 2 ≤ length t → sofar a r (set (set t 0 n) 1 (a + n)) n ≡ inscribed a r n t
 sofar_all a r [] n h = absurd (omega arith)
 sofar_all a r (x ∷ []) n h = absurd (omega arith)
-sofar_all a r (x ∷ y ∷ t) n h = let e : 2 + 3 * n ≡ suc (suc (3 * n)) = omega arith in rw e refl
+sofar_all a r (x ∷ y ∷ t) n h =
+    let e : 2 + 3 * n ≡ suc (suc (3 * n)) = omega arith in
+    paste_all (n ∷ (a + n) ∷ t) 2 (rows a r n) (3 * n) (sym (length-rows a r n)) ∙ rw e refl

@@ -3,24 +3,19 @@ use mathlib.Core.Path.{sym, ap, ◌∙◌}
 use native.Mathlib.Omega.{arith}
 use Rattle.definitions.specs.Table.{act_of}
 use Rattle.theory.specs.Table.Transitions.{act_is_lem}
-use Rattle.sheet.specs.Within.{head_within, action_within}
+use Rattle.sheet.specs.Within.{action_within}
 use Rattle.machine.specs.Lookups.{act_states, act_terminals}
 use Rattle.machine.proofs.act_of.Goals as goal
-
-pub states_of-requires : goal.states_of-requires
-states_of-requires c = head_within _ c.requires
+use Rattle.machine.proofs.act_of.Goals.{then-s-states_of-via-then-s-states_of, then-s-states_of-via-else-s-states_of+then-a-terminals_of}
 
 pub returns-then-s-states_of : goal.returns-then-s-states_of
-returns-then-s-states_of c = sym (act_states _ _ _ (omega arith))
-
-pub terminals_of-requires : goal.terminals_of-requires
-terminals_of-requires c = head_within _ c.requires
-
-pub returns-then-a-terminals_of : goal.returns-then-a-terminals_of
-returns-then-a-terminals_of c = sym (act_terminals _ _ _ (omega arith))
+returns-then-s-states_of c = elim c.then-s-states_of.branch [
+  | then-s-states_of-via-then-s-states_of w ↦ sym (act_states _ _ _ (omega arith))
+  | then-s-states_of-via-else-s-states_of+then-a-terminals_of w ↦ sym (act_terminals _ _ _ (omega arith))
+]
 
 pub action-requires : goal.action-requires
 action-requires c = action_within _ c.requires _ _ (omega arith) (omega arith)
 
 pub returns : goal.returns
-returns c = c.said.ensures ∙ ap act_of c.action.ensures.0 ∙ sym (act_is_lem _ _ _ (omega arith) (omega arith))
+returns c = c.from.ensures ∙ ap act_of c.action.ensures.0 ∙ sym (act_is_lem _ _ _ (omega arith) (omega arith))

@@ -8,4 +8,4 @@ pub left-requires : goal.left-requires
 left-requires c = production_within _ c.requires.0 _ c.requires.1
 
 pub returns : goal.returns
-returns c = c.wide.ensures.0 ∙ c.left.ensures ∙ sym (lhs_is _ _)
+returns c = c.from.ensures ∙ c.left.ensures ∙ sym (lhs_is _ _)

@@ -8,4 +8,4 @@ pub len-requires : goal.len-requires
 len-requires c = production_within _ c.requires.0 _ c.requires.1
 
 pub returns : goal.returns
-returns c = c.wide.ensures.0 ∙ c.len.ensures ∙ sym (rhs_length _ _ c.requires.1)
+returns c = c.from.ensures ∙ c.len.ensures ∙ sym (rhs_length _ _ c.requires.1)

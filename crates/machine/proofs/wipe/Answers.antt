@@ -1,19 +1,10 @@
--- `machine::wipe` meets its contract: after i turns the first i words are 0. Assumes nothing.
-use mathlib.Core.Path.{ap, ◌∙◌}
-use mathlib.Core.List.{List}
-use Prim.Native.Nat.{ℕ}
-use native.Mathlib.Omega.{arith}
-use lib.ListN.{set}
-use Rattle.machine.specs.Wiped.{wiped-more, wiped_all}
-use borrow.Author.Rules.{rules}
+-- `machine::wipe` meets its contract: the block filled is as long as the words cleared. Assumes nothing.
+use Rattle.std.proofs.Common.{ap, ◌∙◌, ℕ, ◌++◌, replicate, drop, length-take-le}
+use Rattle.definitions.specs.Answers.{cleared}
 use Rattle.machine.proofs.wipe.Goals as goal
 
-pub loop-i-preserved : goal.loop-i-preserved
-loop-i-preserved c = (
-  search rules,
-  search rules,
-  ap (λ (l : List ℕ). set l c.loop-i.i 0) c.loop-i.invariant.2 ∙ wiped-more c.loop-i.i c.args.room.now (search rules),
-)
-
 pub returns : goal.returns
-returns c = c.loop-i.invariant.2 ∙ wiped_all c.loop-i.i c.args.room.now (omega arith)
+unfolding cleared
+returns c =
+    let r = c.args.room.now in
+    ap (◌++ drop 16384 r) (c.fill.ensures.after (λ y e. e) ∙ ap (λ (n : ℕ). replicate n 0) (length-take-le 16384 r c.requires))

@@ -1,12 +1,13 @@
--- `reading::read_text` meets its contract: the machine's end is told, and the room is wiped of what it held. Assumes nothing.
-use mathlib.Core.Path.{ap, ◌∙◌}
-use Rattle.machine.specs.Wiped.{cleared-rest}
+-- `reading::read_text` meets its contract: the room is wiped of what the machine held. Assumes nothing.
+use Rattle.std.proofs.Common.{ap, ◌∙◌, drop}
+use Rattle.machine.specs.Room.{states_end}
+use Rattle.machine.specs.Wiped.{cleared-front}
 use Rattle.reading.specs.Fresh.{told}
 use Rattle.reading.proofs.read_text.Goals as goal
 
 pub returns : goal.returns
 returns c =
-    let a = c.args in
-    let p = c.requires in
-    ap (told c.finish-a.result c.finish-a.new.tree) (c.wipe.ensures ∙ cleared-rest _ _ c.run-e.ensures.room_unchanged)
-    ∙ c.finish-a.ensures a.t.now a.codes.now a.room.now p.0 p.1 c.run-e.ensures.ends
+    let r = c.read-a in
+    let room = c.args.room.now in
+    let w = rw c.unwrap-front.ensures at c.first_chunk_mut.ensures.cases in
+    ap (told r.result r.new.tree) (c.wipe.ensures ∙ cleared-front r.new.room room w.enough (r.ensures.room_unchanged ∙ ap (drop states_end) w.same)) ∙ r.ensures.tells room
