@@ -10,4 +10,6 @@ pub mod Copies
 pub mod Back
 pub mod Whole
 pub mod Write
+pub mod Kept
 pub mod Renumber
+pub mod Lent

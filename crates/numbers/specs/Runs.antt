@@ -1,6 +1,6 @@
 -- Runs: records side by side that stand in the old tree at one shift, and the spot words that follow from them. A piece with tokens stands in
 -- the old tree exactly where it is in the run of its last token.
-use Rattle.std.specs.Prelude.{◌≡◌, refl, List, ℕ, ◌+◌, ◌-◌, ◌≤◌, ◌<◌, set, length}
+use Rattle.std.specs.Prelude.{◌≡◌, refl, Option, None, Some, MatchOption, unwrap_or, List, ℕ, ◌+◌, ◌-◌, ◌≤◌, ◌<◌, set, length}
 use Rattle.std.proofs.Common.{arith}
 use Rattle.std.proofs.Math.Decide.{dec_lt}
 use Rattle.machine.specs.Room.{states_at}
@@ -42,6 +42,12 @@ pub record Stops (old R : List ℕ) (m w n j end : ℕ) : Type 0 where
   pub met : (i : ℕ) → j ≤ i → i < end → Met old R m w i
   pub stop : end < n → Met old R m w end → ⊥
 
+-- it ends before the first record that is not of it
+pub stops_first : {old R : List ℕ} {m w n j e : ℕ} (r : Option ℕ) → j ≤ n → MatchOption r ((i : ℕ) → j ≤ i → i < n → Met old R m w i)
+    (λ k. (j ≤ k) × (k < n) × (Met old R m w k → ⊥) × ((i : ℕ) → j ≤ i → i < k → Met old R m w i)) → e ≡ unwrap_or r n → Stops old R m w n j e
+stops_first None h F z = rw z (record { low = h; high = omega arith; met = F; stop = λ l. absurd (omega arith) })
+stops_first (Some k) h F z = rw z (record { low = F.0; high = omega (arith, F.1); met = F.3; stop = λ l. F.2 })
+
 pub starts_more : {old R : List ℕ} {m w j start : ℕ} → Starts old R m w j start → Met old R m w j → Starts old R m w (j + 1) start
 starts_more {old} {R} {m} {w} {j} {start} S t = record { up = omega (arith, S.up); met = λ i a b. at i a b (dec_lt i j); before = S.before }
   where
@@ -49,7 +55,7 @@ starts_more {old} {R} {m} {w} {j} {start} S t = record { up = omega (arith, S.up
     at i a b (yes g) = S.met i a g
     at i a b (no g) = let z : i ≡ j = omega arith in rw z t
 
--- while a run is followed back or on: its records so far
+-- while a run is followed back: its records so far
 pub record Met-all (old R : List ℕ) (m w a b : ℕ) : Type 0 where
   pub met : (i : ℕ) → a ≤ i → i < b → Met old R m w i
 
@@ -62,13 +68,6 @@ met_back {old} {R} {m} {w} {e} {j} A p t = record { met = λ i x y. at i x y (de
     at : (i : ℕ) → e - 1 ≤ i → i < j → Dec (i < e) → Met old R m w i
     at i x y (yes g) = let z : i ≡ e - 1 = omega arith in rw z t
     at i x y (no g) = A.met i (omega arith) y
-
-pub met_on : {old R : List ℕ} {m w j e : ℕ} → Met-all old R m w j e → Met old R m w e → Met-all old R m w j (e + 1)
-met_on {old} {R} {m} {w} {j} {e} A t = record { met = λ i x y. at i x y (dec_lt i e) }
-  where
-    at : (i : ℕ) → j ≤ i → i < e + 1 → Dec (i < e) → Met old R m w i
-    at i x y (yes g) = A.met i x g
-    at i x y (no g) = let z : i ≡ e = omega arith in rw z t
 
 -- the word that is chosen for a piece from record `first` on
 abbrev pub Chosen : ℕ → ℕ → ℕ → ℕ → ℕ → Type 0
@@ -114,8 +113,8 @@ pub record Filling (old R : List ℕ) (m w start j last : ℕ) : Type 0 where
   pub told : Told old R m (last - 1) w
   pub run : Starts old R m w j start
 
-abbrev pub Filled : List ℕ → List ℕ → ℕ → ℕ → ℕ → ℕ → ℕ → ℕ → ℕ → Type 0
-Filled room room' n a e start before w last =
+abbrev pub Filled : List ℕ → List ℕ → ℕ → ℕ → ℕ → ℕ → ℕ → ℕ → Type 0
+Filled room room' a e start before w last =
     (old lent : List ℕ) (m : ℕ) → OldRow old m → 2 ≤ w → Judging old lent m room a → Filling old (front lent) m w start a before → ((i : ℕ) → a ≤ i → i < e → Met old (front lent) m w i)
     → Judging old lent m room' e × Filling old (front lent) m w start e last
 

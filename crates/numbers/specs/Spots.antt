@@ -1,29 +1,16 @@
 -- How the spot word of a token is found, by a search, one law for each way out; and the words of all records, written forward.
-use Rattle.std.specs.Prelude.{◌≡◌, refl, List, ℕ, ◌+◌, ◌≤◌, ◌<◌, drop, set, length}
-use Rattle.std.proofs.Common.{◌∙◌, arith, length-set, get_or-set_same, get_or-set_other, drop-set-lt}
+use Rattle.std.specs.Prelude.{◌≡◌, refl, Option, None, Some, MatchOption, List, ℕ, ◌+◌, ◌≤◌, ◌<◌, drop, set, length}
+use Rattle.std.proofs.Common.{◌∙◌, arith, get_or-set_same, get_or-set_other, drop-set-lt}
 use Rattle.std.proofs.Math.Decide.{dec_lt}
 use Rattle.std.proofs.lemmas.List.{take-set-le}
 use Rattle.machine.specs.Room.{states_at, states_end}
 use Rattle.numbers.specs.Records.{front, kind_of, number_of, spot_of, In, Shape, OldRow, Same, Has, Told, lost, found, Spots, in_self}
 
--- the first old record from lo up to hi that is record j, or hi
-pub record Finds (old R : List ℕ) (j lo hi k : ℕ) : Type 0 where
-  pub high : k ≤ hi
-  pub before : (i : ℕ) → lo ≤ i → i < k → Same old R j i → ⊥
-  pub found : k < hi → Same old R j k
-
--- while it is sought
-pub record Seeking (old R : List ℕ) (j lo hi k : ℕ) : Type 0 where
-  pub low : lo ≤ k
-  pub high : k ≤ hi
-  pub before : (i : ℕ) → lo ≤ i → i < k → Same old R j i → ⊥
-
-pub seek-more : {old R : List ℕ} {j lo hi k : ℕ} → Seeking old R j lo hi k → k < hi → (Same old R j k → ⊥) → Seeking old R j lo hi (k + 1)
-seek-more {old} {R} {j} {lo} {k = k} s h n = record { low = omega arith; high = omega arith; before = λ i l u. by i l u (dec_lt i k) }
-  where
-    by : (i : ℕ) → lo ≤ i → i < k + 1 → Dec (i < k) → Same old R j i → ⊥
-    by i l u (yes g) = s.before i l g
-    by i l u (no g) = let z : i ≡ k = omega arith in rw z n
+-- r is the first old record from lo up to hi that is record j, if there is one
+abbrev pub Finds : (old R : List ℕ) (j lo hi : ℕ) → Option ℕ → Type 0
+Finds old R j lo hi r =
+    MatchOption r ((i : ℕ) → lo ≤ i → i < hi → Same old R j i → ⊥)
+    (λ k. (lo ≤ k) × (k < hi) × Same old R j k × ((i : ℕ) → lo ≤ i → i < k → Same old R j i → ⊥))
 
 -- ---- a token's
 module _ {old R : List ℕ} {n m : ℕ} (S : Shape R n) (O : OldRow old m) {j : ℕ} (h : j < n) (token : kind_of R j < 256) where
@@ -40,13 +27,16 @@ module _ {old R : List ℕ} {n m : ℕ} (S : Shape R n) (O : OldRow old m) {j : 
   pub token_lost : ((k : ℕ) → k < m → Same old R j k → ⊥) → Told old R m j 1
   token_lost none = lost refl has (λ v a. let p = a.each j (in_self S h) in none p.place p.inside p.same)
 
-  -- neither from a place on nor before it
-  pub token_nowhere : {from k i : ℕ} → Finds old R j from m k → m ≤ k → Finds old R j 0 from i → from ≤ i → Told old R m j 1
-  token_nowhere {from} {k} {i} f a g b = token_lost (λ x l s. by x l s (dec_lt x from))
+  -- sought from a place on, and before it where it is not found there
+  pub token_told : {from : ℕ} (f g : Option ℕ) {w : ℕ} → from ≤ m → Finds old R j from m f → MatchOption f (Finds old R j 0 from g) (λ k. g ≡ Some k)
+      → MatchOption g (w ≡ 1) (λ k. w + j ≡ 2050 + k) → Told old R m j w
+  token_told (Some k) g {w} l F e v = let x : w + j ≡ 2050 + k = rw e at v in token_found k w F.1 x F.2
+  token_told None (Some k) {w} l F G v = token_found k w (omega (arith, G.1)) v G.2
+  token_told {from} None None l F G v = rw v (token_lost (λ x u s. by x u s (dec_lt x from)))
     where
       by : (x : ℕ) → x < m → Same old R j x → Dec (x < from) → ⊥
-      by x l s (yes u) = g.before x (omega arith) (omega arith) s
-      by x l s (no u) = f.before x (omega arith) (omega arith) s
+      by x u s (yes q) = G x (omega arith) q s
+      by x u s (no q) = F x (omega arith) u s
 
   -- "an inserted token equals no old one"
   pub token_inserted : number_of R j ≡ 0 → Told old R m j 1
@@ -54,7 +44,6 @@ module _ {old R : List ℕ} {n m : ℕ} (S : Shape R n) (O : OldRow old m) {j : 
 
 -- ---- all of them, forward: the records stand, and the spot words before j are told
 pub record Judging (old lent : List ℕ) (m : ℕ) (room : List ℕ) (j : ℕ) : Type 0 where
-  pub long : length room ≡ length lent
   pub records : front room ≡ front lent
   pub spots : Spots old (front lent) m room j
   pub rest : drop states_end room ≡ drop states_end lent
@@ -62,7 +51,6 @@ pub record Judging (old lent : List ℕ) (m : ℕ) (room : List ℕ) (j : ℕ) :
 pub judge-more : {old lent room : List ℕ} {m j w : ℕ} → Judging old lent m room j → states_at + j < length room → j < 2048 → Told old (front lent) m j w → Judging old lent m (set room (states_at + j) w) (j + 1)
 unfolding front
 judge-more {old} {lent} {room} {m} {j} {w} J l u t = record {
-  long = length-set room (states_at + j) w ∙ J.long;
   records = take-set-le states_at room (states_at + j) w (omega arith) ∙ J.records;
   spots = record { told = λ i h. by i h (dec_lt i j) };
   rest = drop-set-lt states_end room (states_at + j) w (omega arith) ∙ J.rest;

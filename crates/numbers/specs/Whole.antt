@@ -1,8 +1,11 @@
 -- "or is the whole tree .. (the whole tree only the whole tree, if it has no tokens)": told record by record.
-use Rattle.std.specs.Prelude.{◌≡◌, List, ℕ, ◌+◌, ◌≤◌, ◌<◌, length}
-use Rattle.std.proofs.Common.{sym, ap, ◌∙◌, arith}
+use Rattle.std.specs.Prelude.{◌≡◌, Bool, true, false, List, ℕ, ◌+◌, ◌≤◌, ◌<◌, length}
+use Rattle.std.specs.Bool.{MatchBool}
+use Rattle.std.specs.List.{AllWithin, HoldsAt, range_with_len}
+use Rattle.std.proofs.lemmas.List.FromFn.{length-range_with_len, get_or-range_with_len}
+use Rattle.theory.specs.Check.Says.{Says, says_yes, says_no}
+use Rattle.std.proofs.Common.{zero-add, sym, ap, ◌∙◌, arith}
 use Rattle.std.proofs.Math.Option.{some}
-use Rattle.std.proofs.Math.Decide.{dec_lt}
 use Rattle.std.proofs.Math.ListN.{get_elem?}
 use Rattle.definitions.specs.Tree.{Tok, Row, size, toks, NRow, erase}
 use Rattle.theory.specs.Records.Flat.{Word, wtok, wnod, flat, length-flat}
@@ -21,13 +24,14 @@ pub record Whole (old R : List ℕ) (m n : ℕ) : Type 0 where
   pub many : m ≡ n
   pub each : (j : ℕ) → j < n → Alike old R j
 
--- while the records are compared
-pub alike_more : {old R : List ℕ} {j : ℕ} → ((i : ℕ) → i < j → Alike old R i) → Alike old R j → (i : ℕ) → i < j + 1 → Alike old R i
-alike_more {old} {R} {j} a b i h = by (dec_lt i j)
-  where
-    by : Dec (i < j) → Alike old R i
-    by (yes l) = a i l
-    by (no l) = let z : i ≡ j = omega arith in rw z b
+-- all of the n records are compared
+pub whole_says : {old R : List ℕ} {m n : ℕ} (b : Bool) → m ≡ n
+    → MatchBool b (AllWithin (λ j. Alike old R j) (range_with_len 0 n) 0 (length (range_with_len 0 n)))
+    ((k : ℕ) × (k < length (range_with_len 0 n)) × HoldsAt (λ j. Alike old R j → ⊥) (range_with_len 0 n) k) → Says b (Whole old R m n)
+whole_says {old} {R} {n = n} true e a = says_yes (record { many = e; each = λ j h. rw (get_or-range_with_len 0 n j 0 h, zero-add) at (a j 0 (omega arith) (omega (arith, length-range_with_len 0 n))) })
+whole_says {old} {R} {n = n} false e a =
+    let h : a.0 < n = omega (arith, a.1, length-range_with_len 0 n) in
+    says_no (λ w. (rw (get_or-range_with_len 0 n a.0 0 h, zero-add) at (a.2 0)) (w.each a.0 h))
 
 module _ {old room : List ℕ} {n : ℕ} {r : NRow} {f : Row} (G : Given old room n r f) where
   pub whole_same : Whole old (front room) (size (erase r)) n → (erase r ≡ f) × (toks f ≡ 0)

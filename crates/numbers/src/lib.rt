@@ -7,12 +7,13 @@ ghost use Rattle.definitions.specs.Tree.{Row, size, NRow, erase};
 ghost use Rattle.theory.specs.Check.Says.{Says};
 ghost use Rattle.theory.specs.Numbers.Number.{judge, renumber};
 ghost use Rattle.machine.specs.Room.{states_end};
-ghost use Rattle.numbers.specs.Records.{front, kind_of, number_of, size_of, spot_of, Shape, OldRow, Spots};
+ghost use Rattle.numbers.specs.Records.{front, kind_of, number_of, size_of, spot_of, Shape, Spots};
 ghost use Rattle.numbers.specs.Given.{Given};
 ghost use Rattle.numbers.specs.Copies.{Reaches, Frame, Copies, Stepped};
 ghost use Rattle.numbers.specs.Back.{Backing};
 ghost use Rattle.numbers.specs.Whole.{Alike, Whole};
-ghost use Rattle.numbers.specs.Write.{is_new, chosen, news, inscribed};
+ghost use Rattle.numbers.specs.Write.{news, inscribed};
+ghost use Rattle.numbers.specs.Kept.{kept};
 ghost use Rattle.numbers.specs.Renumber.{Numbers, Answers};
 
 // the records, and when two of them are the same
@@ -21,24 +22,23 @@ mod records;
 // the spot words
 mod runs;
 
+use records::Old;
+
 // ---- kept numbers, backward
 
 // Gives records a up to b the numbers of the old records at the shift w.
-fn copy(old: &[u32], room: &mut [u32], a: usize, b: usize, w: u32)
-    requires { (16384 ≤ length room.old) × (a ≤ b) × (b ≤ 2048) × Reaches old.now w a b }
+fn copy(old: &[u32], room: &mut [u32; machine::ROOM], a: usize, b: usize, w: u32)
+    requires { (a ≤ b) × (b ≤ 2048) × Reaches old.now w a b }
     ensures { Copies old.now room.old a b w room.new }
 {
-    let mut i = a;
-    while i < b {
-        room[3 * i + 1] = tree::number_at(old, i + tree::wide(w) - records::SHIFT);
-        i += 1;
+    for i in a..b {
+        room[3 * i + 1] = tree::number_at(old, i + w as usize - records::SHIFT);
     }
 }
 
 // One step back from record e: over a piece that stands in the old tree, which takes its numbers there; or over one record, whose number
 // word stands.
-fn back(old: &[u32], room: &mut [u32], e: usize) -> usize
-    requires in_bounds { 16384 ≤ length room.old }
+fn back(old: &[u32], room: &mut [u32; machine::ROOM], e: usize) -> usize
     requires e_nonzero { (0 < e) × (e ≤ 2048) }
     requires e_bound { size_of (front room.old) (e - 1) ≤ e }
     requires reaches { 2 ≤ spot_of room.old (e - 1) → Reaches old.now (spot_of room.old (e - 1)) (e - size_of (front room.old) (e - 1)) e }
@@ -53,103 +53,80 @@ fn back(old: &[u32], room: &mut [u32], e: usize) -> usize
     a
 }
 
-// Gives each record the number that it keeps, by the spot words; 0 where it gets a new one.
-fn take_over(old: &[u32], room: &mut [u32], m: usize, n: usize)
-    requires in_bounds { 16384 ≤ length room.old }
+// Gives each record the number that it keeps, by the spot words; 0 where it gets a new one. A step goes over a whole piece, so that no range
+// names the places.
+fn take_over(old: &Old, room: &mut [u32; machine::ROOM], n: usize)
     requires shape { Shape (front room.old) n }
-    requires old_row { OldRow old.now m }
-    requires spots { Spots old.now (front room.old) m room.old n }
+    requires spots { Spots old.now.row.now (front room.old) old.now.nodes room.old n }
     ensures frame { Frame room.old room.new 0 }
-    ensures backing { (r : NRow) (f : Row) → Given old.now room.old n r f → m ≡ size (erase r) → Backing n r f room.new 0 }
+    ensures backing { (r : NRow) (f : Row) → Given old.now.row.now room.old n r f → old.now.nodes ≡ size (erase r) → Backing n r f room.new 0 }
 {
     let mut e = n;
     while 0 < e {
-        e = back(old, room, e);
+        e = back(old.row, room, e);
     }
 }
 
 // ---- the whole tree
 
 // Whether record j is no token and is the old record j.
-fn alike(old: &[u32], room: &[u32], j: usize) -> bool
-    requires { (16384 ≤ length room.now) × (j < 2048) × (2 + 3 * j + 3 ≤ length old.now) }
+fn alike(old: &[u32], room: &[u32; machine::ROOM], j: usize) -> bool
+    requires { (j < 2048) × (2 + 3 * j + 3 ≤ length old.now) }
     ensures { Says result (Alike old.now (front room.now) j) }
 {
-    if records::kind_of(room, j) < 256 {
-        return false;
-    }
-    records::same(old, room, j, j)
+    256 <= records::kind_of(room, j) && records::same(old, room, j, j)
 }
 
 // Whether the new tree has no tokens and is the old tree.
-fn whole(old: &[u32], room: &[u32], m: usize, n: usize) -> bool
-    requires { (16384 ≤ length room.now) × (n ≤ 2048) × (2 + 3 * m ≤ length old.now) }
-    ensures { Says result (Whole old.now (front room.now) m n) }
+fn whole(old: &Old, room: &[u32; machine::ROOM], n: usize) -> bool
+    requires { n ≤ 2048 }
+    ensures { Says result (Whole old.now.row.now (front room.now) old.now.nodes n) }
 {
-    if m != n {
-        return false;
-    }
-    let mut j: usize = 0;
-    while j < n {
-        if alike(old, room, j) {
-            j += 1;
-        } else {
-            return false;
-        }
-    }
-    true
+    old.nodes == n && (0..n).all(|j| alike(old.row, room, j))
 }
 
 // Gives each of the n records the number that it keeps; 0 where it gets a new one.
-fn keep(old: &[u32], room: &mut [u32], n: usize)
-    requires { (16384 ≤ length room.old) × ((r : NRow) × ((f : Row) × Given old.now room.old n r f)) }
+fn keep(old: &[u32], room: &mut [u32; machine::ROOM], n: usize)
+    requires { (r : NRow) × ((f : Row) × Given old.now room.old n r f) }
     ensures numbers { (r : NRow) (f : Row)
         → Given old.now room.old n r f
         → Numbers (front room.new) n (get_or old.now 1 0) (renumber (judge r) r (get_or old.now 1 0) f) }
     ensures room_unchanged { drop states_end room.new ≡ drop states_end room.old }
 {
-    let m = tree::count_at(old);
-    if whole(old, room, m, n) {
-        copy(old, room, 0, n, 2050);
+    let tree = Old {
+        row: old,
+        nodes: tree::count_at(old),
+    };
+    if whole(&tree, room, n) {
+        copy(old, room, 0, n, records::SHIFT as u32);
     } else {
-        runs::spots(old, room, m, n);
-        take_over(old, room, m, n);
+        runs::spots(&tree, room, n);
+        take_over(&tree, room, n);
     }
 }
 
 // ---- the tree written
 
-// 1 where a number word is 0, so that a new number is given.
-fn is_new(x: u32) -> u32
-    ensures { (result ≡ is_new x) × (result ≤ 1) }
+// The number that record j keeps, if it keeps one: its number word is 0 where a new one is given.
+fn kept(room: &[u32; machine::ROOM], j: usize) -> Option<u32>
+    requires { j < 2048 }
+    ensures { result ≡ kept (number_of (front room.now) j) }
 {
-    if x == 0 { 1 } else { 0 }
-}
-
-// The number that is written: the one that is kept, or the next one.
-fn choose(x: u32, next: u32) -> u32
-    ensures { result ≡ chosen x next }
-{
-    if x == 0 { next } else { x }
+    let number = records::number_of(room, j);
+    if number == 0 { None } else { Some(number) }
 }
 
 // How many of the n records get a new number.
-fn count_new(room: &[u32], n: usize) -> u32
-    requires { (16384 ≤ length room.now) × (n ≤ 2048) }
+fn count_new(room: &[u32; machine::ROOM], n: usize) -> u32
+    requires { n ≤ 2048 }
     ensures { result ≡ news (front room.now) n }
 {
-    let mut k: u32 = 0;
-    let mut j: usize = 0;
-    while j < n {
-        k += is_new(records::number_of(room, j));
-        j += 1;
-    }
-    k
+    (0..n).filter(|j| kept(room, *j).is_none()).count() as u32
 }
 
 // Writes record j with the number that it has.
-fn put_record(tree: &mut [u32], room: &[u32], j: usize, number: u32)
-    requires { (16384 ≤ length room.now) × (j < 2048) × (6146 ≤ length tree.old) }
+fn put_record(tree: &mut [u32], room: &[u32; machine::ROOM], j: usize, number: u32)
+    requires { (j < 2048) × (6146 ≤ length tree.old) }
     ensures { tree.new
         ≡ set (set (set tree.old (2 + 3 * j) (kind_of (front room.now) j)) (2 + 3 * j + 1) number) (2 + 3 * j + 2) (size_of (front room.now) j) }
 {
@@ -159,20 +136,36 @@ fn put_record(tree: &mut [u32], room: &[u32], j: usize, number: u32)
 }
 
 // Writes the tree: the count, the next number raised by the new ones, and the n records.
-fn write(tree: &mut [u32], room: &[u32], n: usize, next: u32, new: u32)
-    requires { (6146 ≤ length tree.old) × (16384 ≤ length room.now) × (n ≤ 2048) × (new ≡ news (front room.now) n) × (next + new ≤ 4294967295) }
+fn write(tree: &mut [u32], room: &[u32; machine::ROOM], n: usize, next: u32, new: u32)
+    requires { (6146 ≤ length tree.old) × (n ≤ 2048) × (new ≡ news (front room.now) n) × (next + new ≤ 4294967295) }
     ensures { tree.new ≡ inscribed next (front room.now) n tree.old }
 {
     tree[0] = n as u32;
     tree[1] = next + new;
     let mut at = next;
-    let mut j: usize = 0;
-    while j < n {
-        let x = records::number_of(room, j);
-        put_record(tree, room, j, choose(x, at));
-        at += is_new(x);
-        j += 1;
+    for j in 0..n {
+        let number = kept(room, j);
+        put_record(tree, room, j, number.unwrap_or(at));
+        at += u32::from(number.is_none());
     }
+}
+
+// Gives the accepted new tree its numbers, and writes it; the tree as lent where the next number would be too large.
+fn number_tree(old: &[u32], tree: &mut [u32], room: &mut [u32; machine::ROOM], n: usize) -> bool
+    requires { (6146 ≤ length tree.old) × ((r : NRow) × ((f : Row) × Given old.now room.old n r f)) }
+    ensures answers { (r : NRow) (f : Row)
+        → Given old.now room.old n r f
+        → Answers tree.old tree.new (renumber (judge r) r (get_or old.now 1 0) f) result }
+    ensures room_unchanged { drop states_end room.new ≡ drop states_end room.old }
+{
+    keep(old, room, n);
+    let new = count_new(room, n);
+    let next = old[1];
+    if next.checked_add(new).is_none() {
+        return false;
+    }
+    write(tree, room, n, next, new);
+    true
 }
 
 // Gives the accepted new tree its numbers, after the old tree, and writes it. Answers false, with the tree as lent, where the next number
@@ -184,12 +177,5 @@ pub fn finish(old: &[u32], tree: &mut [u32], room: &mut [u32], n: usize) -> bool
         → Answers tree.old tree.new (renumber (judge r) r (get_or old.now 1 0) f) result }
     ensures room_unchanged { drop states_end room.new ≡ drop states_end room.old }
 {
-    keep(old, room, n);
-    let new = count_new(room, n);
-    let next = old[1];
-    if 4294967295 - next < new {
-        return false;
-    }
-    write(tree, room, n, next, new);
-    true
+    number_tree(old, tree, room.first_chunk_mut().unwrap(), n)
 }

@@ -1,27 +1,21 @@
 // The spot words, forward: a token's by a search, and from it on its run, records side by side that stand in the old tree at one shift. All is
 // linear in the nodes.
 ghost use Rattle.std.specs.Prelude.{◌≡◌, List, ℕ, ◌+◌, ◌*◌, ◌≤◌, ◌<◌, length};
-ghost use Rattle.numbers.specs.Records.{front, kind_of, size_of, Shape, OldRow, Told};
+ghost use Rattle.numbers.specs.Records.{front, kind_of, size_of, Shape, Told};
 ghost use Rattle.numbers.specs.Spots.{Finds, Judging};
 ghost use Rattle.numbers.specs.Runs.{Starts, Stops, Chosen, Filled, Walking, Started};
 
 use crate::records;
+use crate::records::Old;
 
 // ---- a token's spot
 
-// The first old record from lo up to hi that is record j, or hi.
-fn find(old: &[u32], room: &[u32], j: usize, lo: usize, hi: usize) -> usize
-    requires { (16384 ≤ length room.now) × (j < 2048) × (lo ≤ hi) × (2 + 3 * hi ≤ length old.now) }
+// The first old record from lo up to hi that is record j, if there is one.
+fn find(old: &[u32], room: &[u32; machine::ROOM], j: usize, lo: usize, hi: usize) -> Option<usize>
+    requires { (j < 2048) × (lo ≤ hi) × (2 + 3 * hi ≤ length old.now) }
     ensures { Finds old.now (front room.now) j lo hi result }
 {
-    let mut k = lo;
-    while k < hi {
-        if records::same(old, room, j, k) {
-            return k;
-        }
-        k += 1;
-    }
-    hi
+    (lo..hi).find(|k| records::same(old, room, j, *k))
 }
 
 // The word that says that record j is the old record k.
@@ -34,66 +28,43 @@ fn shifted(j: usize, k: usize) -> u32
 
 // The spot word of record j, a token, sought from the old record `from` on and then before it. Old tokens come in the old order, so the
 // search goes on where the last one was found.
-fn token_spot(old: &[u32], room: &[u32], m: usize, n: usize, j: usize, from: usize) -> u32
-    requires in_bounds { 16384 ≤ length room.now }
-    requires shape { Shape (front room.now) n }
-    requires old_row { OldRow old.now m }
-    requires j_lt_n { j < n }
-    requires from_le_m { from ≤ m }
+fn token_spot(old: &Old, room: &[u32; machine::ROOM], j: usize, from: usize) -> u32
+    requires shape { (n : ℕ) × Shape (front room.now) n × (j < n) }
+    requires from_in_old { from ≤ old.now.nodes }
     requires j_bound { kind_of (front room.now) j < 256 }
-    ensures { Told old.now (front room.now) m j result }
+    ensures { Told old.now.row.now (front room.now) old.now.nodes j result }
 {
     if records::number_of(room, j) == 0 {
         return records::LOST;
     }
-    let k = find(old, room, j, from, m);
-    if k < m {
-        return shifted(j, k);
-    }
-    let i = find(old, room, j, 0, from);
-    if i < from {
-        return shifted(j, i);
-    }
-    records::LOST
+    find(old.row, room, j, from, old.nodes)
+        .or_else(|| find(old.row, room, j, 0, from))
+        .map_or(records::LOST, |k| shifted(j, k))
 }
 
 // ---- runs: records side by side that stand in the old tree at one shift
 
 // Where the run of records at the shift w that ends before record j starts.
-fn run_start(old: &[u32], room: &[u32], m: usize, j: usize, w: u32) -> usize
-    requires { (16384 ≤ length room.now) × (j ≤ 2048) × (2 + 3 * m ≤ length old.now) }
-    ensures { Starts old.now (front room.now) m w j result }
+fn run_start(old: &Old, room: &[u32; machine::ROOM], j: usize, w: u32) -> usize
+    requires { j ≤ 2048 }
+    ensures { Starts old.now.row.now (front room.now) old.now.nodes w j result }
 {
-    let mut e = j;
-    while 0 < e {
-        if records::meets(old, room, m, e - 1, w) {
-            e -= 1;
-        } else {
-            return e;
+    for i in (0..j).rev() {
+        if !records::meets(old, room, i, w) {
+            return i + 1;
         }
     }
-    e
+    0
 }
 
-// Where the run of the n records ends that starts with record j, at the old record k.
-fn run_end(old: &[u32], room: &[u32], m: usize, n: usize, j: usize, k: usize) -> usize
-    requires { (16384 ≤ length room.now) × (j ≤ n) × (n ≤ 2048) × (2 + 3 * m ≤ length old.now) }
-    ensures { (w : ℕ) → k + 2050 ≡ j + w → Stops old.now (front room.now) m w n j result }
+// Where the run of the n records at the shift w ends that starts with record j.
+fn run_end(old: &Old, room: &[u32; machine::ROOM], n: usize, j: usize, w: u32) -> usize
+    requires { (j ≤ n) × (n ≤ 2048) }
+    ensures { Stops old.now.row.now (front room.now) old.now.nodes w n j result }
 {
-    let mut e = j;
-    let mut i = k;
-    while e < n {
-        if i >= m {
-            return e;
-        }
-        if records::same(old, room, e, i) {
-            e += 1;
-            i += 1;
-        } else {
-            return e;
-        }
-    }
-    e
+    (j..n)
+        .find(|i| !records::meets(old, room, *i, w))
+        .unwrap_or(n)
 }
 
 // The spot word of a piece from record `first` on, where the last token stands before record `last`: 0 where that token is before the piece;
@@ -102,56 +73,32 @@ fn word_of(first: usize, start: usize, last: usize, w: u32) -> u32
     ensures { Chosen first start last w result }
 {
     if last <= first {
-        return 0;
+        0
+    } else if start <= first {
+        w
+    } else {
+        records::LOST
     }
-    if start <= first {
-        return w;
-    }
-    records::LOST
 }
 
 // The first record of the piece that ends with record j.
-fn first_of(room: &[u32], n: usize, j: usize) -> usize
-    requires { (16384 ≤ length room.now) × Shape (front room.now) n × (j < n) }
+fn first_of(room: &[u32; machine::ROOM], j: usize) -> usize
+    requires { (n : ℕ) × Shape (front room.now) n × (j < n) }
     ensures { result + size_of (front room.now) j ≡ j + 1 }
 {
     j + 1 - records::size_of(room, j)
 }
 
 // Where the last token stands once record j is passed, and one; `last` before that.
-fn last_of(room: &[u32], j: usize, last: usize) -> usize
-    requires { (16384 ≤ length room.now) × (j < 2048) }
+fn last_of(room: &[u32; machine::ROOM], j: usize, last: usize) -> usize
+    requires { j < 2048 }
     ensures { (kind_of (front room.now) j < 256 → result ≡ j + 1) × (256 ≤ kind_of (front room.now) j → result ≡ last) }
 {
     if records::kind_of(room, j) < 256 {
-        return j + 1;
+        j + 1
+    } else {
+        last
     }
-    last
-}
-
-// Writes the spot words of records a up to e, which are of the run from `start` on at the shift w, the last token being before `before`; where
-// it stands then, and one.
-fn put_run(
-    room: &mut [u32],
-    n: usize,
-    a: usize,
-    e: usize,
-    start: usize,
-    before: usize,
-    w: u32,
-) -> usize
-    requires { (16384 ≤ length room.old) × Shape (front room.old) n × (a ≤ e) × (e ≤ n) }
-    ensures { Filled room.old room.new n a e start before w result }
-{
-    let mut last = before;
-    let mut j = a;
-    while j < e {
-        last = last_of(room, j, last);
-        let v = word_of(first_of(room, n, j), start, last, w);
-        room[records::SPOTS + j] = v;
-        j += 1;
-    }
-    last
 }
 
 // ---- all spots, forward
@@ -168,72 +115,76 @@ pub struct Run {
 }
 
 // The next record, which is not of the run before it: a token, which starts a run where it stands in the old tree, or a node.
-fn pass(old: &[u32], room: &mut [u32], m: usize, n: usize, r: Run) -> Run
-    requires { (16384 ≤ length room.old)
-        × (r.at < n)
-        × OldRow old.now m
-        × ((lent : List ℕ) × Shape (front lent) n × Walking old.now lent m n room.old r) }
-    ensures { ((lent : List ℕ) → Shape (front lent) n → Walking old.now lent m n room.old r → Started old.now lent m n room.new result) × (result.at ≡ r.at + 1) }
+fn pass(old: &Old, room: &mut [u32; machine::ROOM], r: Run) -> Run
+    requires walking { (lent : List ℕ) × ((n : ℕ) × Shape (front lent) n × (r.at < n) × Walking old.now.row.now lent old.now.nodes n room.old r) }
+    ensures started { (lent : List ℕ) (n : ℕ)
+        → Shape (front lent) n
+        → r.at < n
+        → Walking old.now.row.now lent old.now.nodes n room.old r
+        → Started old.now.row.now lent old.now.nodes n room.new result }
+    ensures next { result.at ≡ r.at + 1 }
 {
     let j = r.at;
     if records::kind_of(room, j) < 256 {
-        let w = token_spot(old, room, m, n, j, r.from);
+        let w = token_spot(old, room, j, r.from);
         room[records::SPOTS + j] = w;
         Run {
             at: j + 1,
             last: j + 1,
             shift: w,
-            start: run_start(old, room, m, j, w),
-            from: r.from,
+            start: run_start(old, room, j, w),
+            ..r
         }
     } else {
-        let v = word_of(first_of(room, n, j), j + 1, r.last, r.shift);
+        let v = word_of(first_of(room, j), j + 1, r.last, r.shift);
         room[records::SPOTS + j] = v;
         Run {
             at: j + 1,
-            last: r.last,
-            shift: r.shift,
             start: j + 1,
-            from: r.from,
+            ..r
         }
     }
 }
 
-// The smaller of two places.
-fn least(a: usize, b: usize) -> usize
-    ensures { result ≤ b }
+// Writes the spot words of the records up to e, which are of the run that the last token is of; where that token stands then, and one.
+fn put_run(room: &mut [u32; machine::ROOM], r: Run, e: usize) -> usize
+    requires { (r.at ≤ e) × ((n : ℕ) × Shape (front room.old) n × (e ≤ n)) }
+    ensures { Filled room.old room.new r.at e r.start r.last r.shift result }
 {
-    if a < b { a } else { b }
+    let mut last = r.last;
+    for j in r.at..e {
+        last = last_of(room, j, last);
+        let v = word_of(first_of(room, j), r.start, last, r.shift);
+        room[records::SPOTS + j] = v;
+    }
+    last
 }
 
 // The rest of the run that the last token is of.
-fn fill(old: &[u32], room: &mut [u32], m: usize, n: usize, r: Run) -> Run
-    requires { (16384 ≤ length room.old) × OldRow old.now m × ((lent : List ℕ) × Shape (front lent) n × Started old.now lent m n room.old r) }
-    ensures { ((lent : List ℕ) → Shape (front lent) n → Started old.now lent m n room.old r → Walking old.now lent m n room.new result) × (r.at ≤ result.at) }
+fn fill(old: &Old, room: &mut [u32; machine::ROOM], n: usize, r: Run) -> Run
+    requires started { (lent : List ℕ) × Shape (front lent) n × Started old.now.row.now lent old.now.nodes n room.old r }
+    ensures walking { (lent : List ℕ)
+        → Shape (front lent) n
+        → Started old.now.row.now lent old.now.nodes n room.old r
+        → Walking old.now.row.now lent old.now.nodes n room.new result }
+    ensures on { r.at ≤ result.at }
 {
-    let w = r.shift;
-    if w < 2 {
+    if r.shift < 2 {
         return r;
     }
-    let j = r.at;
-    let k = j + tree::wide(w) - records::SHIFT;
-    let e = run_end(old, room, m, n, j, k);
-    let last = put_run(room, n, j, e, r.start, r.last, w);
+    let e = run_end(old, room, n, r.at, r.shift);
     Run {
         at: e,
-        last: last,
-        shift: w,
-        start: r.start,
-        from: least(e + tree::wide(w) - records::SHIFT, m),
+        last: put_run(room, r, e),
+        from: (e + r.shift as usize - records::SHIFT).min(old.nodes),
+        ..r
     }
 }
 
-// Writes the spot words of the n records.
-pub fn spots(old: &[u32], room: &mut [u32], m: usize, n: usize)
-    requires in_bounds { 16384 ≤ length room.old }
+// Writes the spot words of the n records. A turn goes on by a run, so that no range names the places.
+pub fn spots(old: &Old, room: &mut [u32; machine::ROOM], n: usize)
     requires shape { Shape (front room.old) n }
-    requires old_row { OldRow old.now m }
-    ensures { Judging old.now room.old m room.new n }
+    ensures { Judging old.now.row.now room.old old.now.nodes room.new n }
 {
     let mut r = Run {
         at: 0,
@@ -243,7 +194,7 @@ pub fn spots(old: &[u32], room: &mut [u32], m: usize, n: usize)
         from: 0,
     };
     while r.at < n {
-        let s = pass(old, room, m, n, r);
-        r = fill(old, room, m, n, s);
+        let s = pass(old, room, r);
+        r = fill(old, room, n, s);
     }
 }

@@ -12,5 +12,6 @@ pub mod Dealing
 pub mod Numbers
 pub mod Climb
 pub mod Sorted
+pub mod Ranges
 pub mod Tokens
 pub mod Order

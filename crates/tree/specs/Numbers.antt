@@ -1,6 +1,6 @@
 -- "Numbers are distinct, at least 1 and below the next number", on the list of a row's numbers: of a tree's row it is `Fit`, and the order
 -- of the numbers does not matter.
-use Rattle.std.specs.Prelude.{◌≡◌, refl, List, [], ◌∷◌, ◌++◌, ℕ, zero, suc, ◌+◌, ◌≤◌, ◌<◌}
+use Rattle.std.specs.Prelude.{◌≡◌, refl, List, [], ◌∷◌, ◌++◌, ℕ, zero, suc, ◌+◌, ◌≤◌, ◌<◌, length, get_or}
 use Rattle.std.proofs.Common.{sym, ap, ◌∙◌, arith}
 use Rattle.definitions.specs.Tree.{size, NRow, ε, ntok, nnod, erase, nums, eqn, Fit}
 use Rattle.theory.specs.Numbers.Counting.{among, occ-nums}
@@ -26,6 +26,22 @@ pub record Apart (next : ℕ) (l : List ℕ) : Type 0 where
   pub low : among 0 l ≡ 0
   pub below : (i : ℕ) → next ≤ i → among i l ≡ 0
   pub apart : (i : ℕ) → among i l ≤ 1
+
+-- as many as the records, and number i is that of record i
+length-numbered : (row : List ℕ) (i n : ℕ) → length (numbered row (places i n)) ≡ n
+length-numbered row i zero = refl
+length-numbered row i (suc n) = ap suc (length-numbered row (suc i) n)
+
+get_or-numbered : (row : List ℕ) (i n j : ℕ) → j < n → get_or (numbered row (places i n)) j 0 ≡ number_at row (i + j)
+get_or-numbered row i zero j h = absurd (omega arith)
+get_or-numbered row i (suc n) zero h = let z : i + 0 ≡ i = omega arith in rw z refl
+get_or-numbered row i (suc n) (suc j) h = let z : i + suc j ≡ suc i + j = omega arith in rw z (get_or-numbered row (suc i) n j (omega arith))
+
+pub length-numbers : (row : List ℕ) (n : ℕ) → length (numbers_of row n) ≡ n
+length-numbers row n = length-numbered row 0 n
+
+pub get_or-numbers : (row : List ℕ) (n i : ℕ) → i < n → get_or (numbers_of row n) i 0 ≡ number_at row i
+get_or-numbers row n i h = let z : 0 + i ≡ i = omega arith in rw z at (get_or-numbered row 0 n i h)
 
 -- ---- of the row of a tree it is `Fit`
 places-add : (i n m : ℕ) → places i (n + m) ≡ places i n ++ places (i + n) m

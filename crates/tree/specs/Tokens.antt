@@ -1,9 +1,11 @@
 -- How many of the first records are tokens; and of a piece that stands in the row, its tokens are the difference of two such counts.
-use Rattle.std.specs.Prelude.{◌≡◌, refl, cond, List, ℕ, zero, suc, ◌+◌, ◌≤◌, ◌<◌, ltb, length, get_or, set}
+use Rattle.std.specs.Prelude.{◌≡◌, refl, Bool, true, false, cond, List, ℕ, zero, suc, ◌+◌, ◌≤◌, ◌<◌, ltb, length, get_or, set}
+use Rattle.std.specs.List.{filter, range_with_len}
 use Rattle.std.proofs.Common.{◌∙◌, arith, length-set, get_or-set_same, get_or-set_other, lt-ltb, le-ltb}
 use Rattle.std.proofs.Math.Decide.{dec_lt}
 use Rattle.definitions.specs.Tree.{size, toks, NRow, ε, ntok, nnod, erase}
 use Rattle.theory.specs.Tree.Build.{Small}
+use Rattle.tree.specs.Ranges.{kept_below}
 use Rattle.tree.specs.Rows.{kind_at, Stands}
 
 -- 1 where record j is a token, else 0
@@ -20,6 +22,21 @@ token_yes row j h = rw (lt-ltb (kind_at row j) 256 h)
 
 pub token_no : (row : List ℕ) (j : ℕ) → 256 ≤ kind_at row j → token_at row j ≡ 0
 token_no row j h = rw (le-ltb (kind_at row j) 256 h)
+
+pub token_one : (row : List ℕ) (j : ℕ) → token_at row j ≤ 1
+token_one row j = by (ltb (kind_at row j) 256)
+  where
+    by : (b : Bool) → cond b 1 0 ≤ 1
+    by true = omega arith
+    by false = omega arith
+
+-- they are the tokens among the places below n
+pub tokens_kept : (row : List ℕ) (n : ℕ) → length (filter (λ j. ltb (kind_at row j) 256) (range_with_len 0 n)) ≡ tokens row n
+tokens_kept row n = kept_below (λ j. ltb (kind_at row j) 256) (tokens row) refl (λ m. let z : m + 1 ≡ suc m = omega arith in rw z refl) n
+
+pub tokens_few : (row : List ℕ) (n : ℕ) → tokens row n ≤ n
+tokens_few row zero = omega arith
+tokens_few row (suc n) = omega (arith, tokens_few row n, token_one row n)
 
 -- pieces that stand from record a on
 pub tokens-piece : (row : List ℕ) (a b : ℕ) (f : NRow) → Stands row a f → Small f → a + size (erase f) ≡ b → tokens row b ≡ tokens row a + toks (erase f)

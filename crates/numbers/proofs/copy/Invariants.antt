@@ -1,10 +1,6 @@
 -- `numbers::copy` meets its contract. The loop's invariant is `Copies`: the records before i have their numbers. Assumes nothing.
-use Prim.Native.Nat.{◌-◌, ◌≤◌}
 use Rattle.numbers.specs.Copies.{Copies}
 use Rattle.numbers.proofs.copy.Given as goal
 
 abbrev pub invariant-loop-i : goal.invariant-loop-i
-invariant-loop-i l = (l.a ≤ l.i) × (l.i ≤ l.b) × Copies l.old l.initial.room l.a l.i l.w l.room
-
-abbrev pub decreases-loop-i : goal.decreases-loop-i
-decreases-loop-i l = l.b - l.i
+invariant-loop-i l = Copies l.old l.initial.room l.a l.i l.w l.room

@@ -5,9 +5,9 @@ use native.Mathlib.Omega.{arith}
 use Rattle.numbers.specs.Copies.{frame_same, step_less, step_frame, reaches}
 use Rattle.numbers.specs.Back.{begin, stepped}
 use Rattle.numbers.proofs.take_over.Goals as goal
-use Rattle.numbers.proofs.take_over.Goals.{After-slice_known-in-loop-e-1}
+use Rattle.numbers.proofs.take_over.Goals.{After-back-e}
 
-less : (c : After-slice_known-in-loop-e-1) → c.back-e.result < c.loop-e.e
+less : (c : After-back-e) → c.back-e.result < c.loop-e.e
 less c =
     let l = c.loop-e in
     let h = c.loop-e-test.true in
@@ -23,24 +23,17 @@ back-e-requires c =
     let F = l.invariant.1 in
     let h = c.loop-e-test.true in
     let f = c.requires.shape.few in record {
-      in_bounds = omega (arith, F.long, c.requires.in_bounds);
       e_nonzero = (h, omega (arith, l.invariant.0));
       e_bound = omega (arith, F.sizes (l.e - 1), c.requires.shape.back (l.e - 1) (omega (arith, l.invariant.0)));
-      reaches = λ k. reaches c.requires.shape c.requires.old_row F h l.invariant.0 (c.requires.spots.told (l.e - 1) (omega (arith, l.invariant.0))) k;
+      reaches = λ k. reaches c.requires.shape c.args.old.now.known F h l.invariant.0 (c.requires.spots.told (l.e - 1) (omega (arith, l.invariant.0))) k;
     }
-
-pub loop-e-smaller : goal.loop-e-smaller
-loop-e-smaller c = less c
 
 pub loop-e-preserved : goal.loop-e-preserved
 loop-e-preserved c =
     let l = c.loop-e in
     let F = l.invariant.1 in
     let h = c.loop-e-test.true in
-    (omega (arith, less c, l.invariant.0), step_frame F c.back-e.ensures, λ r f G z. stepped G (rw z at c.requires.spots) F h (l.invariant.2 r f G z) c.back-e.ensures)
-
-pub shape_of-room : goal.shape_of-room
-shape_of-room c = c.loop-e.invariant.1.long
+    (omega (arith, less (goal.at.loop-e-preserved c).After-back-e, l.invariant.0), step_frame F c.back-e.ensures, λ r f G z. stepped G (rw z at c.requires.spots) F h (l.invariant.2 r f G z) c.back-e.ensures)
 
 pub returns : goal.returns
 returns c =

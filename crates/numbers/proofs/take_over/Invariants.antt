@@ -8,7 +8,7 @@ use Rattle.numbers.specs.Back.{Backing}
 use Rattle.numbers.proofs.take_over.Given as goal
 
 abbrev pub invariant-loop-e : goal.invariant-loop-e
-invariant-loop-e l = (l.e ≤ l.n) × Frame l.initial.room l.room l.e × ((r : NRow) (f : Row) → Given l.old l.initial.room l.n r f → l.m ≡ size (erase r) → Backing l.n r f l.room l.e)
+invariant-loop-e l = (l.e ≤ l.n) × Frame l.initial.room l.room l.e × ((r : NRow) (f : Row) → Given l.old.row.now l.initial.room l.n r f → l.old.nodes ≡ size (erase r) → Backing l.n r f l.room l.e)
 
 abbrev pub decreases-loop-e : goal.decreases-loop-e
 decreases-loop-e l = l.e

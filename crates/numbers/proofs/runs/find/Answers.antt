@@ -1,21 +1,15 @@
--- `runs::find` meets its contract. The loop's invariant is `Seeking`: no record passed is the one sought. Assumes nothing.
-use native.Mathlib.Omega.{arith}
-use Rattle.theory.specs.Check.Says.{refused}
-use Rattle.numbers.specs.Spots.{seek-more}
-use borrow.Author.Rules.{rules}
+-- `runs::find` meets its contract: the first of the places that passes. Assumes nothing.
+use Rattle.std.proofs.Common.{rules, tests, refl, true, false}
+use Rattle.theory.specs.Check.Says.{Says, refused}
+use Rattle.std.proofs.lemmas.Iterator.{first_from_Range}
+use Rattle.numbers.specs.Records.{front, Same}
 use Rattle.numbers.proofs.runs.find.Goals as goal
-
-pub loop-k-init : goal.loop-k-init
-loop-k-init c = record { low = omega arith; high = search rules; before = λ i l u. absurd (omega arith) }
-
-pub returns-then-same : goal.returns-then-same
-returns-then-same c =
-    let I = c.loop-k.invariant in record { high = I.high; before = I.before; found = λ h. c.same.ensures.to c.if-same.true }
-
-pub loop-k-preserved : goal.loop-k-preserved
-loop-k-preserved c =
-    seek-more c.loop-k.invariant c.loop-k-test.true (refused c.same.ensures c.if-same.false)
 
 pub returns : goal.returns
 returns c =
-    let I = c.loop-k.invariant in record { high = omega arith; before = λ i l u. I.before i l (omega (arith, c.loop-k-test.false)); found = λ h. absurd (omega arith) }
+    let old = c.args.old.now in
+    let R = front c.args.room.now in
+    let j = c.args.j in
+    first_from_Range _ _ _ _ (λ k. Same old R j k) (λ k. Same old R j k → ⊥) c.find.ensures.ran
+    (λ k q h. let s : Says true (Same old R j k) = search (rules, tests) in s.to refl)
+    (λ k q h. (search rules, let s : Says false (Same old R j k) = search (rules, tests) in refused s refl))

@@ -4,7 +4,7 @@ use Rattle.numbers.specs.Runs.{Walking}
 use Rattle.numbers.proofs.runs.spots.Given as goal
 
 abbrev pub invariant-loop-r : goal.invariant-loop-r
-invariant-loop-r l = Walking l.old l.initial.room l.m l.n l.room l.r
+invariant-loop-r l = Walking l.old.row.now l.initial.room l.old.nodes l.n l.room l.r
 
 abbrev pub decreases-loop-r : goal.decreases-loop-r
 decreases-loop-r l = l.n - l.r.at

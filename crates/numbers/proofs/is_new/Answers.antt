@@ -1,8 +1,0 @@
--- `numbers::is_new` meets its contract. Assumes nothing.
-use mathlib.Core.Path.{sym}
-use native.Mathlib.Omega.{arith}
-use Rattle.numbers.specs.Write.{kept_one}
-use Rattle.numbers.proofs.is_new.Goals as goal
-
-pub returns-else-x-eq0 : goal.returns-else-x-eq0
-returns-else-x-eq0 c = let n = c.if-x-eq0.false in (sym (kept_one c.args.x 0 (omega arith)).1, omega arith)
