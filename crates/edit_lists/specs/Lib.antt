@@ -1,4 +1,2 @@
--- What the crate's contracts cite: the words of a list of edits, the edits passed one by one, and what is found of them.
+-- What the crate's contracts cite: the words of a list of edit structs.
 pub mod Words
-pub mod Passing
-pub mod Listing

@@ -101,6 +101,7 @@ pub record Listed {old : List ℕ} (C : Case old) (r r' : List ℕ) (k : ℕ) : 
   pub few : k ≤ 2048
   pub counted : Counted old r'
   pub rest : drop 16384 r' ≡ drop 16384 r
+  pub long : length r' ≡ length r
 
 -- the edits of some update with the codes `put` are all passed; once the list is made, it is the one of that update
 abbrev pub AllPassed : List ℕ → List ℕ → List ℕ → Marks → Type 0
@@ -149,4 +150,4 @@ module _ {old : List ℕ} {C : Case old} {r r' : List ℕ} {m : Marks} (Y : Read
     pub listed : {r₃ r₄ : List ℕ} {k : ℕ} → length r₄ ≡ length r₂ → Elsewhere r₂ r₃ → Elsewhere r₃ r₄ → Pending C.t old C.put r₄ k (list C) → Listed C r r₄ k
     listed l E F P =
         let x = kept Y.counts all_base (case-holds C).0.1 all_few C marked (l ∙ M.long ∙ Y.long) E F in
-        record { pending = P; few = list_few C P; counted = x.0; rest = x.1 }
+        record { pending = P; few = list_few C P; counted = x.0; rest = x.1; long = l ∙ M.long ∙ Y.long }

@@ -1,5 +1,5 @@
 -- Edits read off a row of words, record by record: what holds of the records passed, and what that says of the row.
-use Rattle.std.specs.Prelude.{◌≡◌, refl, List, [], ◌∷◌, ℕ, suc, ◌+◌, ◌-◌, ◌≤◌, ◌<◌, length, get_or, drop}
+use Rattle.std.specs.Prelude.{◌≡◌, refl, Option, Some, None, List, [], ◌∷◌, ℕ, suc, ◌+◌, ◌-◌, ◌≤◌, ◌<◌, length, get_or, drop}
 use Rattle.std.proofs.Common.{sym, ap, ◌∙◌, arith, length-drop, drop-cons}
 use Rattle.std.proofs.Math.Decide.{dec_le}
 use Rattle.std.proofs.Math.Seq.{drop-length}
@@ -130,27 +130,22 @@ module _ {row : List ℕ} {n left i from used out : ℕ} (W : Walking row n left
       }
 
 -- ---- edit by edit
--- the walk once the rules are broken
-abbrev pub broken : ℕ → Walk
-broken n = record { from = n + 1; used = 0; out = 0 }
+-- the walk r is w with the edit e more, of n old tokens and `left` codes; none where e breaks the rules
+pub record Passes (n left : ℕ) (w : Walk) (e : Edit) (r : Option Walk) : Type 0 where
+  pub fit : Fit w.from n (left - w.used) e → r ≡ Some (record { from = e.place + e.removed; used = w.used + e.put; out = w.out + e.removed })
+  pub unfit : (Fit w.from n (left - w.used) e → ⊥) → r ≡ None
 
--- the walk r is w with the edit e more, of n old tokens and `left` codes
-pub record Passes (n left : ℕ) (w : Walk) (e : Edit) (r : Walk) : Type 0 where
-  pub fit : Fit w.from n (left - w.used) e → r ≡ record { from = e.place + e.removed; used = w.used + e.put; out = w.out + e.removed }
-  pub unfit : (Fit w.from n (left - w.used) e → ⊥) → r ≡ broken n
+-- w is the walk over the first i words of the row
+abbrev pub Walked : List ℕ → ℕ → ℕ → ℕ → Walk → Type 0
+Walked row n left i w = Walking row n left i w.from w.used w.out
 
--- the walk over the first i words of the row
-pub record Passed (row : List ℕ) (n left i : ℕ) (w : Walk) : Type 0 where
-  pub some : w.used ≤ left
-  pub low : w.out ≤ w.from
-  pub right : w.from ≤ n → Walking row n left i w.from w.used w.out
-  pub wrong : n < w.from → (es : List Edit) → Fits 0 n left row es → ⊥
+-- the walk over the first i words of the row; none where the row's words are no edits in order
+abbrev pub Passed : List ℕ → ℕ → ℕ → ℕ → Option Walk → Type 0
+Passed row n left i (Some w) = Walked row n left i w
+Passed row n left i None = (es : List Edit) → Fits 0 n left row es → ⊥
 
-pub passed_none : (row : List ℕ) (n left : ℕ) → Passed row n left 0 (record { from = 0; used = 0; out = 0 })
-passed_none row n left = record { some = omega arith; low = omega arith; right = λ h. walk_begin row n left; wrong = λ h. absurd (omega arith) }
-
-passed_broken : {row : List ℕ} {n left : ℕ} (i : ℕ) {w : Walk} → w ≡ broken n → ((es : List Edit) → Fits 0 n left row es → ⊥) → Passed row n left i w
-passed_broken i e f = rw e (record { some = omega arith; low = omega arith; right = λ h. absurd (omega arith); wrong = λ h. f })
+pub passed_none : (row : List ℕ) (n left : ℕ) → Passed row n left 0 (Some (record { from = 0; used = 0; out = 0 }))
+passed_none row n left = walk_begin row n left
 
 dec_fit : (from n left : ℕ) (e : Edit) → Dec (Fit from n left e)
 dec_fit from n left e = by (dec_le from e.place) (dec_le (e.place + e.removed) n) (dec_le e.put left)
@@ -161,50 +156,38 @@ dec_fit from n left e = by (dec_le from e.place) (dec_le (e.place + e.removed) n
     by (yes a) (no b) c = no (λ F. b F.within)
     by (no a) b c = no (λ F. a F.behind)
 
-module _ {row : List ℕ} {n left i : ℕ} {w : Walk} (P : Passed row n left i w) where
+module _ {row : List ℕ} {n left i : ℕ} {w : Walk} (P : Walked row n left i w) where
   -- edits in order have the record at word i
   passed_next : i < length row → (es : List Edit) → Fits 0 n left row es → Next row i w.from n (left - w.used)
-  passed_next h es F = by (dec_le w.from n)
-    where
-      by : Dec (w.from ≤ n) → Next row i w.from n (left - w.used)
-      by (yes k) = let t = (P.right k).back es F in (fits_next row i w.from n (left - w.used) h t.0 t.1).0
-      by (no k) = absurd (P.wrong (omega arith) es F)
+  passed_next h es F = let t = P.back es F in (fits_next row i w.from n (left - w.used) h t.0 t.1).0
 
-  pub passed_on : {e : Edit} → Record row i e → {r : Walk} → Passes n left w e r → Passed row n left (i + 3) r
+  pub passed_on : {e : Edit} → Record row i e → {r : Option Walk} → Passes n left w e r → Passed row n left (i + 3) r
   passed_on E {r} S' = by (rw (← E.is) at S') (dec_fit w.from n (left - w.used) (edit_at row i))
     where
       h : i + 3 ≤ length row
       h = E.whole
 
       by : Passes n left w (edit_at row i) r → Dec (Fit w.from n (left - w.used) (edit_at row i)) → Passed row n left (i + 3) r
-      by S (yes f) =
-          let a = f.behind in let b = f.within in
-          let W = walk-on (P.right (omega arith)) (omega arith) (record { whole = h; fit = f }) in
-          rw (S.fit f) (record { some = W.some; low = W.low; right = λ k. W; wrong = λ k. let c = W.high in absurd (omega arith) })
-      by S (no f) = passed_broken (i + 3) (S.unfit f) (λ es F. f (passed_next (omega arith) es F).fit)
+      by S (yes f) = rw (S.fit f) (walk-on P (omega arith) (record { whole = h; fit = f }))
+      by S (no f) = rw (S.unfit f) (λ es F. f (passed_next (omega arith) es F).fit)
 
   -- a part of a record at the end
-  pub passed_part : i < length row → length row < i + 3 → {r : Walk} → r ≡ broken n → Passed row n left (length row) r
-  passed_part h k e = passed_broken (length row) e (λ es F. let a = (passed_next h es F).whole in omega arith)
+  pub passed_part : i < length row → length row < i + 3 → {r : Option Walk} → r ≡ None → Passed row n left (length row) r
+  passed_part h k e = rw e (λ es F. let a = (passed_next h es F).whole in omega arith)
 
 -- all words are walked
-module _ {row : List ℕ} {n left : ℕ} {w : Walk} (P : Passed row n left (length row) w) where
-  pub passed_fits : w.from ≤ n → w.used ≡ left → (es : List Edit) × Fits 0 n left row es × (removals es ≡ w.out)
-  passed_fits h u =
-      let t = (P.right h).to [] (record { records = sym (drop-length row); places = tt; used = omega arith }) in
+module _ {row : List ℕ} {n left : ℕ} {w : Walk} (P : Walked row n left (length row) w) where
+  pub passed_fits : w.used ≡ left → (es : List Edit) × Fits 0 n left row es × (removals es ≡ w.out)
+  passed_fits u =
+      let t = P.to [] (record { records = sym (drop-length row); places = tt; used = omega arith }) in
       (t.0, t.1, omega (arith, t.2))
 
-  pub fits_passed : (es : List Edit) → Fits 0 n left row es → (w.from ≤ n) × (w.used ≡ left) × (removals es ≡ w.out)
-  fits_passed es F = by (dec_le w.from n)
-    where
-      by : Dec (w.from ≤ n) → (w.from ≤ n) × (w.used ≡ left) × (removals es ≡ w.out)
-      by (no h) = absurd (P.wrong (omega arith) es F)
-      by (yes h) =
-          let W : Walking row n left (length row) w.from w.used w.out = P.right h in
-          let t = W.back es F in
-          let s = P.some in
-          let z : t.0 ≡ [] = fits-none w.from n (left - w.used) row t.0 t.1 in
-          let u : w.used ≡ left = omega (arith, t.1.used, ap put_in z) in
-          let g = passed_fits h u in
-          let y : es ≡ g.0 = one-row row F.records g.1.records in
-          (h, u, ap removals y ∙ g.2)
+  pub fits_passed : (es : List Edit) → Fits 0 n left row es → (w.used ≡ left) × (removals es ≡ w.out)
+  fits_passed es F =
+      let t = P.back es F in
+      let s = P.some in
+      let z : t.0 ≡ [] = fits-none w.from n (left - w.used) row t.0 t.1 in
+      let u : w.used ≡ left = omega (arith, t.1.used, ap put_in z) in
+      let g = passed_fits u in
+      let y : es ≡ g.0 = one-row row F.records g.1.records in
+      (u, ap removals y ∙ g.2)

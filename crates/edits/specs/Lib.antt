@@ -3,6 +3,7 @@ pub mod Codes
 pub mod Before
 pub mod Length
 pub mod Fits
+pub mod Words
 pub mod Judged
 pub mod Marks
 pub mod CleanMarks
@@ -11,4 +12,6 @@ pub mod Pushing
 pub mod Going
 pub mod Stepping
 pub mod Begin
+pub mod Passing
 pub mod Made
+pub mod Listing

@@ -1,5 +1,5 @@
 -- The run of an entry: a piece's words in the old row, or one code of the inserted row.
-use Rattle.std.specs.Prelude.{◌≡◌, refl, cond, List, [], ◌∷◌, ◌++◌, ℕ, zero, suc, ◌+◌, ◌-◌, ◌*◌, ◌≤◌, ◌<◌, ltb, length, get_or, take, drop}
+use Rattle.std.specs.Prelude.{◌≡◌, refl, cond, List, [], ◌∷◌, ◌++◌, ℕ, zero, suc, ◌+◌, ◌-◌, ◌*◌, ◌≤◌, ◌<◌, ltb, min, length, get_or, take, drop}
 use Rattle.std.proofs.Common.{sym, ap, ◌∙◌, append_assoc, append-nil, arith, length-drop, drop-cons, drop-drop, lt-ltb, le-ltb}
 use Rattle.definitions.specs.Tree.{size, yield, look, NRow, ε, ntok, nnod, erase, words}
 use Rattle.definitions.specs.Reading.{Tree}
@@ -85,3 +85,14 @@ first_none l i h = by (drop i l) (omega (arith, length-drop i l))
     by : (m : List ℕ) → length m ≡ 0 → first_of m ≡ 0
     by [] k = refl
     by (x ∷ m) k = absurd (omega arith)
+
+-- the next record of a run, whole or not, and those behind it
+pub first_record : (x l : List ℕ) → length x ≡ min 3 (length (x ++ l)) → 0 < length (x ++ l)
+    → first_of (x ++ l) ≡ cond (ltb (get_or x 0 0) 256) (get_or x 0 0) (first_of l)
+first_record [] l e h = absurd (omega arith)
+first_record (k ∷ []) [] e h = refl
+first_record (k ∷ []) (y ∷ l) e h = absurd (omega arith)
+first_record (k ∷ i ∷ []) [] e h = refl
+first_record (k ∷ i ∷ []) (y ∷ l) e h = absurd (omega arith)
+first_record (k ∷ i ∷ s ∷ []) l e h = refl
+first_record (k ∷ i ∷ s ∷ y ∷ x) l e h = absurd (omega arith)

@@ -1,6 +1,8 @@
 -- The tokens of the list, entry by entry.
-use Rattle.std.specs.Prelude.{◌≡◌, List, ℕ, suc, ◌+◌, ◌-◌, ◌≤◌, ◌<◌, get_or}
-use Rattle.std.proofs.Common.{ap, ◌∙◌, subst, arith}
+use Rattle.std.specs.Prelude.{◌≡◌, refl, List, ℕ, suc, ◌+◌, ◌-◌, ◌≤◌, ◌<◌, length, get_or}
+use Rattle.std.proofs.Common.{[], ◌∷◌, sym, ap, ◌∙◌, subst, arith, length-append}
+use Rattle.std.proofs.lemmas.List.{get_or_push, get_or_append_left}
+use Rattle.std.specs.List.{push}
 use Rattle.definitions.specs.Sheet.{T}
 use Rattle.definitions.specs.Tree.{Row, ∅, toks}
 use Rattle.definitions.specs.Reading.{cons}
@@ -76,3 +78,28 @@ on-top {t} {old} {put} {r} {k} h W =
 
 pub one_weighed : {t old put r : List ℕ} {k total w : ℕ} {f : Row} → (W : Weighing t old put r k total f) → Weighs t old put r (k - 1) w W.rest → Weighing t old put r (k - 1) (total + w) f
 one_weighed W X = record { few = W.few; counted = W.counted; small = W.small; rest = X.rest; pending = X.pending; is = omega (arith, W.is, X.is) }
+
+-- ---- the words of the list, as they are lent
+-- l are the list's first words
+abbrev pub Begins : List ℕ → List ℕ → Type 0
+Begins r l = (i : ℕ) → i < length l → get_or l i 0 ≡ get_or r (list_at + i) 0
+
+-- its last word off
+pub off_end : (r l l' : List ℕ) (x : ℕ) → Begins r l → l ≡ push l' x
+    → (length l ≡ suc (length l')) × (x ≡ get_or r (list_at + length l') 0) × Begins r l'
+off_end r l l' x B e =
+    let n : length l ≡ suc (length l') = ap length e ∙ length-append l' (x ∷ []) ∙ omega arith in (
+      n,
+      sym (get_or_push l' x 0 (length l') refl) ∙ sym (ap (λ (w : List ℕ). get_or w (length l') 0) e) ∙ B (length l') (omega (arith, n)),
+      λ i h. sym (get_or_append_left l' (x ∷ []) 0 i h) ∙ sym (ap (λ (w : List ℕ). get_or w i 0) e) ∙ B i (omega (arith, n)),
+    )
+
+module _ {t old put r : List ℕ} {total : ℕ} {f : Row} (l l' : List ℕ) (x : ℕ) (B : Begins r l) (e : l ≡ push l' x) (W : Weighing t old put r (length l) total f) where
+  less : length l - 1 ≡ length l'
+  less = omega (arith, (off_end r l l' x B e).0)
+
+  pub end_weighed : Weighed t old put r (length l') x W.rest
+  end_weighed = let o = off_end r l l' x B e in rw o.1 (rw less at (on-top (omega (arith, o.0)) W))
+
+  pub end_off : {w : ℕ} → Weighs t old put r (length l') w W.rest → Weighing t old put r (length l') (total + w) f
+  end_off {w} X = let Y : Weighs t old put r (length l - 1) w W.rest = rw less X in rw less at (one_weighed W Y)

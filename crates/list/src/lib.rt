@@ -8,31 +8,52 @@ ghost use Rattle.definitions.specs.Tree.{Row, toks, yield, look};
 ghost use Rattle.theory.specs.Check.Says.{Says};
 ghost use Rattle.tree.specs.Shaped.{Holds};
 ghost use Rattle.list.specs.Pending.{list_at, tokens_at, Pending};
+ghost use Rattle.list.specs.Entries.{entry_of};
 ghost use Rattle.list.specs.Runs.{Fits, run_of, first_of};
 ghost use Rattle.list.specs.Opening.{Opens, Keeps, Elsewhere};
 ghost use Rattle.list.specs.Weigh.{Counting, Weighed, Weighs};
 
-// Where the list starts in the room; it has at most 2,048 words.
+// Where the list starts in the room; it has at most 2,048 words. Its room is lent (fixed memory), so the count of its words goes beside.
 pub const LIST: usize = 8193;
 
 // Where the counts of tokens among the old row's first records start.
 pub const TOKENS: usize = 10241;
 
-// From here on an entry is the place of an inserted code; below, of a piece's root.
+// From here on an entry is the place of an inserted code; below, of a piece's root. In the list it is one word of the room (fixed memory).
 pub const CODES: usize = 2048;
+
+// What an entry stands for: a piece, by its root's record in the old row, or a code, by its place in the inserted row.
+#[derive(Clone, Copy)]
+pub enum Entry {
+    Piece(usize),
+    Code(usize),
+}
+
+impl From<usize> for Entry {
+    ghost from_gives = { λ e x. x ≡ entry_of e };
+
+    // What the entry of this number stands for.
+    fn from(entry: usize) -> Entry {
+        if entry < CODES {
+            Entry::Piece(entry)
+        } else {
+            Entry::Code(entry - CODES)
+        }
+    }
+}
 
 // The run of an entry, handed on without copying: a piece's words in the old row, or a code in the inserted row.
 pub fn next_run<'a>(old: &'a [u32], put: &'a [u32], entry: usize) -> &'a [u32]
     requires { Fits old.now put.now entry }
     ensures { result.now ≡ run_of old.now put.now entry }
 {
-    if entry < CODES {
-        let end = 2 + 3 * (entry + 1);
-        let start = end - 3 * tree::size_at(old, entry);
-        &old[start..end]
-    } else {
-        let k = entry - CODES;
-        &put[k..k + 1]
+    match Entry::from(entry) {
+        Entry::Piece(v) => {
+            let end = 2 + 3 * (v + 1);
+            let start = end - 3 * tree::size_at(old, v);
+            &old[start..end]
+        }
+        Entry::Code(k) => &put[k..k + 1],
     }
 }
 
@@ -41,12 +62,12 @@ pub fn entry_at(room: &[u32], m: usize) -> usize
     requires { (16384 ≤ length room.now) × (0 < m) × (m ≤ 2048) }
     ensures { (result ≡ get_or room.now (list_at + (m - 1)) 0) × (result < 4294967296) }
 {
-    tree::wide(room[LIST + (m - 1)])
+    room[LIST + (m - 1)] as usize
 }
 
 // One entry more.
-pub fn push(room: &mut [u32], m: usize, entry: u32)
-    requires { (16384 ≤ length room.old) × (m < 2048) }
+pub fn push(room: &mut [u32; 16384], m: usize, entry: u32)
+    requires { m < 2048 }
     ensures { room.new ≡ set room.old (list_at + m) entry }
 {
     room[LIST + m] = entry;
@@ -55,16 +76,16 @@ pub fn push(room: &mut [u32], m: usize, entry: u32)
 // ---- a left-break
 
 // Whether there is a token among the records from a up to b.
-fn has_tokens(room: &[u32], a: usize, b: usize) -> bool
-    requires { (16384 ≤ length room.now) × (a ≤ 2048) × (b ≤ 2048) }
+fn has_tokens(room: &[u32; 16384], a: usize, b: usize) -> bool
+    requires { (a ≤ 2048) × (b ≤ 2048) }
     ensures { Says result (get_or room.now (tokens_at + a) 0 < get_or room.now (tokens_at + b) 0) }
 {
-    tree::wide(room[TOKENS + a]) < tree::wide(room[TOKENS + b])
+    room[TOKENS + a] < room[TOKENS + b]
 }
 
 // The piece from record `from` up to record `to` put on the list of m words, if it has a token; how many words the list has then.
-fn keep_child(room: &mut [u32], m: usize, from: usize, to: usize) -> usize
-    requires { (16384 ≤ length room.old) × (from < to) × (to ≤ 2048) × (get_or room.old (tokens_at + from) 0 < get_or room.old (tokens_at + to) 0 → m < 2048) }
+fn keep_child(room: &mut [u32; 16384], m: usize, from: usize, to: usize) -> usize
+    requires { (from < to) × (to ≤ 2048) × (get_or room.old (tokens_at + from) 0 < get_or room.old (tokens_at + to) 0 → m < 2048) }
     ensures { Keeps room.old room.new m from to result }
 {
     if has_tokens(room, from, to) {
@@ -82,7 +103,10 @@ pub fn open(old: &[u32], room: &mut [u32], v: usize, m: usize) -> usize
     ensures by_index { (t put : List ℕ) (g : Row) → Opens t old.now put room.old v m g → Pending t old.now put room.new result g }
     ensures elsewhere { Elsewhere room.old room.new }
 {
+    let room = room.first_chunk_mut::<16384>().unwrap();
     let start = v + 1 - tree::size_at(old, v);
+
+    // No range or iterator steps so: each step back is as long as the child that ends there.
     let mut pos = v;
     let mut k = m;
     while start < pos {
@@ -95,16 +119,14 @@ pub fn open(old: &[u32], room: &mut [u32], v: usize, m: usize) -> usize
 
 // ---- what is next
 
-// The terminal of a run's first token; 0 where it has none.
+// The terminal of a run's first token; where it has none the end mark's, which is 0.
 fn first_token(run: &[u32]) -> u32
     ensures { result ≡ first_of run.now }
 {
-    let mut i = 0;
-    while i < run.len() {
-        if run[i] < 256 {
-            return run[i];
+    for record in run.chunks(3) {
+        if record[0] < 256 {
+            return record[0];
         }
-        i += 3;
     }
     0
 }
@@ -128,29 +150,28 @@ pub fn peek<'a>(old: &'a [u32], put: &'a [u32], room: &[u32], m: usize) -> u32
 // ---- the tokens of the list
 
 // How many tokens the run of an entry has.
-fn tokens_of(old: &[u32], room: &[u32], entry: usize) -> usize
-    requires { (16384 ≤ length room.now) × Holds old.now × ((t put : List ℕ) × (m : ℕ) × (f : Row) × Weighed t old.now put room.now m entry f) }
+fn tokens_of(old: &[u32], room: &[u32; 16384], entry: usize) -> usize
+    requires { Holds old.now × ((t put : List ℕ) × (m : ℕ) × (f : Row) × Weighed t old.now put room.now m entry f) }
     ensures by_index { (t put : List ℕ) (m : ℕ) (f : Row) → Weighed t old.now put room.now m entry f → Weighs t old.now put room.now m result f }
     ensures upper_bound { result ≤ 2048 }
 {
-    if entry < CODES {
-        let start = entry + 1 - tree::size_at(old, entry);
-        tree::wide(room[TOKENS + (entry + 1)]) - tree::wide(room[TOKENS + start])
-    } else {
-        1
+    match Entry::from(entry) {
+        Entry::Piece(v) => {
+            let start = v + 1 - tree::size_at(old, v);
+            (room[TOKENS + (v + 1)] - room[TOKENS + start]) as usize
+        }
+        Entry::Code(_) => 1,
     }
 }
 
 // How many tokens the list of m words has.
-pub fn tokens_left(old: &[u32], room: &[u32], m: usize) -> usize
-    requires { (16384 ≤ length room.now) × Holds old.now × ((t put : List ℕ) × (f : Row) × Counting t old.now put room.now m f) }
+pub fn tokens_left(old: &[u32], room: &[u32; 16384], m: usize) -> usize
+    requires { Holds old.now × ((t put : List ℕ) × (f : Row) × Counting t old.now put room.now m f) }
     ensures { (t put : List ℕ) (f : Row) → Counting t old.now put room.now m f → result ≡ toks f }
 {
-    let mut k = m;
-    let mut total: usize = 0;
-    while k > 0 {
-        total += tokens_of(old, room, entry_at(room, k));
-        k -= 1;
+    let mut total = 0;
+    for entry in room[LIST..LIST + m].iter().rev() {
+        total += tokens_of(old, room, *entry as usize);
     }
     total
 }

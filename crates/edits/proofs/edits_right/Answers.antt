@@ -1,12 +1,17 @@
--- `edits::edits_right` meets its contract: by the walk over its words. Assumes nothing.
-use Rattle.edits.specs.Judged.{says_order}
+-- The records, if nothing is left over.
+use Rattle.std.proofs.Common.{sym, length, eq-eqb, eqb-true, ◌∙◌}
+use Rattle.std.proofs.lemmas.Bool.{false≢true}
+use Rattle.edits.specs.Judged.{says_none}
+use Rattle.edits.specs.Words.{whole-words, part-words}
 use Rattle.edits.proofs.edits_right.Goals as goal
 
-pub walked_right-requires : goal.walked_right-requires
-walked_right-requires c =
-    let p = c.requires in
-    (p.0, p.1, c.walk_words-w.ensures.low)
+pub returns-then-is_empty : goal.returns-then-is_empty
+returns-then-is_empty c =
+    let s = c.as_chunks.ensures in
+    let w = whole-words c.args.edits.now c.as_chunks.result.1.now s.back_len (eqb-true (length c.as_chunks.result.1.now) 0 (sym c.if-is_empty.ensures)) s.front in
+    λ old l. rw w at (c.in_order.ensures old l)
 
-pub returns : goal.returns
-returns c =
-    λ old l. says_order c.args.t.now old c.args.edits.now c.args.put.now c.walk_words-w.ensures l c.walked_right.ensures
+pub returns-else-is_empty : goal.returns-else-is_empty
+returns-else-is_empty c = λ old l.
+    rw c.if-is_empty.false (says_none c.args.t.now old c.args.edits.now c.args.put.now
+    (part-words c.args.edits.now c.as_chunks.result.1.now c.as_chunks.ensures.back_len (λ h. false≢true (c.if-is_empty.ensures ∙ eq-eqb (length c.as_chunks.result.1.now) 0 h))))

@@ -1,24 +1,28 @@
--- `list::first_token` meets its contract: record after record is passed over until one is a token. Assumes nothing.
-use mathlib.Core.Path.{refl, sym, ◌∙◌}
-use borrow.Author.Tests.{lt-ltb, le-ltb}
-use lib.ListN.{get_or}
-use Rattle.list.specs.Runs.{first_next, first_none}
+-- Record after record is passed over until one is a token.
+use Rattle.std.proofs.Common.{◌≡◌, ◌++◌, sym, ap, ◌∙◌, length, get_or, min, cond, ltb, lt-ltb, le-ltb, arith}
+use Rattle.std.specs.Slice.Iter.{chunks_rest}
+use Rattle.list.specs.Runs.{first_of, first_record}
 use Rattle.list.proofs.first_token.Goals as goal
+use Rattle.list.proofs.first_token.Goals.{In-Some}
 
-pub loop-i-init : goal.loop-i-init
-loop-i-init c = refl
+-- what the record at hand says of the run's first token
+here : (c : In-Some) → cond (ltb (get_or c.in-Some.record.now 0 0) 256) (get_or c.in-Some.record.now 0 0) (first_of (chunks_rest c.next.new.self)) ≡ first_of c.args.run.now
+here c =
+    let s = c.in-Some.ensures.steps in
+    let i = c.loop-record.invariant in
+    let x = c.in-Some.record.now in
+    let l = chunks_rest c.next.new.self in
+    let n : length x ≡ min 3 (length (x ++ l)) = s.1.1 ∙ ap (λ k. min k (length (chunks_rest c.loop-record.record-iterator))) i.2 ∙ ap (λ w. min 3 (length w)) s.1.0 in
+    sym (first_record x l n (rw s.1.0 at s.1.2)) ∙ ap first_of (sym s.1.0) ∙ i.3
 
-pub returns-then-run-i-lt256 : goal.returns-then-run-i-lt256
-returns-then-run-i-lt256 c =
-    let l = c.loop-i in
-    let a = c.args in
-    sym (sym l.invariant ∙ first_next a.run.now l.i c.loop-i-test.true ∙ rw (lt-ltb (get_or a.run.now l.i 0) 256 c.if-run-i-lt256.true) refl)
+pub returns-then-record-lt256 : goal.returns-then-record-lt256
+returns-then-record-lt256 c =
+    let h = here (goal.at.returns-then-record-lt256 c).In-Some in
+    rw (lt-ltb (get_or c.in-Some.record.now 0 0) 256 c.if-record-lt256.true) at h
 
-pub loop-i-preserved : goal.loop-i-preserved
-loop-i-preserved c =
-    let l = c.loop-i in
-    let a = c.args in
-    sym (first_next a.run.now l.i c.loop-i-test.true ∙ rw (le-ltb (get_or a.run.now l.i 0) 256 c.if-run-i-lt256.false) refl) ∙ l.invariant
-
-pub returns : goal.returns
-returns c = sym (first_none c.args.run.now c.loop-i.i c.loop-i-test.false) ∙ c.loop-i.invariant
+pub loop-record-preserved : goal.loop-record-preserved
+loop-record-preserved c =
+    let s = c.in-Some.ensures.steps in
+    let i = c.loop-record.invariant in
+    let h = here (goal.at.loop-record-preserved c).In-Some in
+    (omega (arith, s.0, i.2), tt, s.0 ∙ i.2, rw (le-ltb (get_or c.in-Some.record.now 0 0) 256 c.if-record-lt256.false) at h)

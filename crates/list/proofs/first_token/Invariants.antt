@@ -1,12 +1,10 @@
--- `list::first_token` meets its contract: record after record is passed over until one is a token. Assumes nothing.
-use mathlib.Core.Path.{◌≡◌}
-use Prim.Native.Nat.{◌-◌}
-use lib.ListN.{length, drop}
+-- `list::first_token` meets its contract: what the records still to come begin with is what the run begins with.
+use Rattle.std.proofs.Common.{◌≡◌}
+use Rattle.std.specs.Slice.Iter.{chunks_rest, chunks_size}
 use Rattle.list.specs.Runs.{first_of}
 use Rattle.list.proofs.first_token.Given as goal
 
-abbrev pub invariant-loop-i : goal.invariant-loop-i
-invariant-loop-i l = first_of (drop l.i l.run) ≡ first_of l.run
-
-abbrev pub decreases-loop-i : goal.decreases-loop-i
-decreases-loop-i l = length l.run - l.i
+abbrev pub invariant-loop-record : goal.invariant-loop-record
+invariant-loop-record l =
+    (goal.iterator-loop-record).can_next l.record-iterator × (goal.iterator-loop-record).is_finite l.record-iterator
+    × (chunks_size l.record-iterator ≡ 3) × (first_of (chunks_rest l.record-iterator) ≡ first_of l.run)

@@ -2,7 +2,6 @@
 use mathlib.Core.Path.{refl, sym, ◌∙◌}
 use mathlib.Core.Bool.{false≢true}
 use Prim.Native.Nat.{◌+◌, ◌<◌}
-use native.Mathlib.Omega.{arith}
 use lib.ListN.{get_or}
 use Rattle.list.specs.Pending.{tokens_at}
 use Rattle.list.specs.Opening.{kept, dropped}
@@ -11,12 +10,6 @@ use Rattle.list.proofs.keep_child.Goals.{Then-has_tokens}
 
 some : (c : Then-has_tokens) → let a = c.args in get_or a.room.now (tokens_at + a.from) 0 < get_or a.room.now (tokens_at + a.to) 0
 some c = c.has_tokens.ensures.to c.if-has_tokens.true
-
-pub push-requires : goal.push-requires
-push-requires c = let p = c.requires in (p.0, p.3 (some (goal.at.push-requires c).Then-has_tokens))
-
-pub overflow_add-result : goal.overflow_add-result
-overflow_add-result c = omega (arith, c.requires.3 (some (goal.at.overflow_add-result c).Then-has_tokens))
 
 pub returns-then-has_tokens : goal.returns-then-has_tokens
 returns-then-has_tokens c = kept (some (goal.at.returns-then-has_tokens c).Then-has_tokens) c.push.ensures

@@ -5,8 +5,8 @@ use Prim.Native.Nat.{ℕ, suc, ◌+◌, ◌-◌, ◌≤◌}
 use native.Mathlib.Omega.{arith}
 use lib.ListN.{length, get_or}
 use Rattle.definitions.specs.Sheet.{T}
-use Rattle.definitions.specs.Tree.{Row, yield, look}
-use Rattle.list.specs.Pending.{list_at, Pending, next, nothing}
+use Rattle.definitions.specs.Tree.{Row}
+use Rattle.list.specs.Pending.{list_at, Pending, next}
 use Rattle.list.specs.Runs.{Fits, run_of, first_of}
 use Rattle.list.specs.Peek.{Peeks, peeks}
 use Rattle.list.proofs.peek.Goals as goal
@@ -20,12 +20,6 @@ top c t f few p =
     let h = c.if-m-eq0.false in
     let e : a.m ≡ suc (a.m - 1) = omega arith in
     peeks c.requires.2 few (next (a.m - 1) (subst (λ (m : ℕ). Pending t a.old.now a.put.now a.room.now m f) e p))
-
-pub returns-then-m-eq0 : goal.returns-then-m-eq0
-returns-then-m-eq0 c t f few p =
-    let e = c.if-m-eq0.true in
-    let a = c.args in
-    sym (ap (λ (g : Row). look 0 (yield g)) (nothing (subst (λ (m : ℕ). Pending t a.old.now a.put.now a.room.now m f) e p)))
 
 pub next_run-run-requires : goal.next_run-run-requires
 next_run-run-requires c =

@@ -1,55 +1,48 @@
 -- `list::tokens_of` meets its contract: a piece's tokens are the difference of two counts. Assumes nothing.
-use mathlib.Core.Path.{◌≡◌, ap, ◌∙◌}
-use Prim.Native.Nat.{ℕ, suc, ◌+◌, ◌-◌, ◌≤◌, ◌<◌}
-use native.Mathlib.Omega.{arith}
-use lib.ListN.{get_or}
+use Rattle.std.proofs.Common.{◌≡◌, ap, List, ℕ, suc, ◌+◌, ◌-◌, ◌≤◌, ◌<◌, get_or, arith}
+use Rattle.definitions.specs.Tree.{Row}
 use Rattle.tree.specs.Rows.{size_at}
+use Rattle.list.specs.Entries.{entry-piece}
 use Rattle.list.specs.Pending.{tokens_at}
-use Rattle.list.specs.Weigh.{Weighs, weight}
+use Rattle.list.specs.Weigh.{Weighed, Weighs, weight}
 use Rattle.list.proofs.tokens_of.Goals as goal
-use Rattle.list.proofs.tokens_of.Goals.{After-size_at, Then-entry-lt-CODES}
+use Rattle.list.proofs.tokens_of.Goals.{In-Piece, After-size_at}
 
-piece : (c : Then-entry-lt-CODES) → let a = c.args in let x = c.requires.2 in let e = a.entry in let o = a.old.now in let r = a.room.now in
-    (e < get_or o 0 0) × (size_at o e ≤ suc e) × (get_or r (tokens_at + (suc e - size_at o e)) 0 ≤ get_or r (tokens_at + suc e) 0)
-    × Weighs x.0 o x.1 r x.2 (get_or r (tokens_at + suc e) 0 - get_or r (tokens_at + (suc e - size_at o e)) 0) x.3
-piece c = (weight c.requires.2.4).piece c.if-entry-lt-CODES.true
+within : (c : In-Piece) → let v = c.in-Piece.v in (v < get_or c.args.old.now 0 0) × (size_at c.args.old.now v ≤ suc v)
+within c =
+    let e = entry-piece c.args.entry c.in-Piece.v c.in-Piece.ensures in
+    let p = (weight c.requires.1.4).piece e.0 in
+    (rw e.1 p.0, rw e.1 p.1)
 
-from : (c : After-size_at) → let a = c.args in a.entry + 1 - c.size_at.result ≡ suc a.entry - size_at a.old.now a.entry
-from c = omega (arith, c.size_at.ensures.0)
+-- the two counts, as they are read
+module _ (c : After-size_at) where
+  abbrev to : ℕ
+  to = get_or c.args.room.now (tokens_at + (c.in-Piece.v + 1)) 0
 
-pub size_at-requires : goal.size_at-requires
-size_at-requires c = omega (arith, (piece c).0, c.requires.1.1)
+  abbrev from : ℕ
+  from = get_or c.args.room.now (tokens_at + (c.in-Piece.v + 1 - c.size_at.result)) 0
+
+  counts : (t put : List ℕ) (m : ℕ) (f : Row) → Weighed t c.args.old.now put c.args.room.now m c.args.entry f
+      → (from ≤ to) × Weighs t c.args.old.now put c.args.room.now m (to - from) f
+  counts t put m f W =
+      let v = c.in-Piece.v in
+      let e = entry-piece c.args.entry v c.in-Piece.ensures in
+      let p = (weight W).piece e.0 in
+      let a : v + 1 ≡ suc v = omega arith in
+      let b : suc v - c.size_at.result ≡ suc v - size_at c.args.old.now v = ap (suc v -◌) c.size_at.ensures.0 in
+      rw (a, b, e.1) (p.2, p.3)
 
 pub overflow_sub-start : goal.overflow_sub-start
-overflow_sub-start c = omega (arith, (piece (goal.at.overflow_sub-start c).Then-entry-lt-CODES).1, c.size_at.ensures.0)
+overflow_sub-start c = omega (arith, (within (goal.at.overflow_sub-start c).In-Piece).1, c.size_at.ensures.0)
 
 pub overflow_sub-result : goal.overflow_sub-result
-overflow_sub-result c =
-    let w = c.wide.ensures.0 in
-    let x = c.wide-then-entry-lt-CODES.ensures.0 in
-    let e = from (goal.at.overflow_sub-result c).After-size_at in
-    let a = c.args in
-    let y : c.wide-then-entry-lt-CODES.result ≡ get_or a.room.now (tokens_at + (suc a.entry - size_at a.old.now a.entry)) 0 = x ∙ ap (λ (i : ℕ). get_or a.room.now (tokens_at + i) 0) e in
-    let z : c.wide.result ≡ get_or a.room.now (tokens_at + suc a.entry) 0 = w ∙ ap (λ (i : ℕ). get_or a.room.now (tokens_at + i) 0) (omega arith) in
-    omega (arith, (piece (goal.at.overflow_sub-result c).Then-entry-lt-CODES).2)
+overflow_sub-result c = let x = c.requires.1 in (counts (goal.at.overflow_sub-result c).After-size_at x.0 x.1 x.2 x.3 x.4).0
 
-pub returns-then-entry-lt-CODES : goal.returns-then-entry-lt-CODES
-returns-then-entry-lt-CODES c =
-    let w = c.wide.ensures.0 in
-    let x = c.wide-then-entry-lt-CODES.ensures.0 in
-    let e = from (goal.at.returns-then-entry-lt-CODES c).After-size_at in
-    let a = c.args in
-    let p = c.requires.2 in
-    let y : c.wide-then-entry-lt-CODES.result ≡ get_or a.room.now (tokens_at + (suc a.entry - size_at a.old.now a.entry)) 0 = x ∙ ap (λ (i : ℕ). get_or a.room.now (tokens_at + i) 0) e in
-    let z : c.wide.result ≡ get_or a.room.now (tokens_at + suc a.entry) 0 = w ∙ ap (λ (i : ℕ). get_or a.room.now (tokens_at + i) 0) (omega arith) in
-    let o = (piece (goal.at.returns-then-entry-lt-CODES c).Then-entry-lt-CODES).3 in
-    record {
-      by_index = λ t put m f W. rw (y, z) ((weight W).piece c.if-entry-lt-CODES.true).3;
-      upper_bound = omega (arith, o.is, p.4.small);
-    }
+pub returns-in-Piece-clause-by_index : goal.returns-in-Piece-clause-by_index
+returns-in-Piece-clause-by_index c t put m f W = (counts (goal.at.returns-in-Piece-clause-by_index c).After-size_at t put m f W).1
 
-pub returns-else-entry-lt-CODES : goal.returns-else-entry-lt-CODES
-returns-else-entry-lt-CODES c = record {
-  by_index = λ t put m f W. (weight W).code c.if-entry-lt-CODES.false;
-  upper_bound = omega arith;
-}
+pub returns-in-Piece-clause-upper_bound : goal.returns-in-Piece-clause-upper_bound
+returns-in-Piece-clause-upper_bound c =
+    let x = c.requires.1 in
+    let o = counts (goal.at.returns-in-Piece-clause-upper_bound c).After-size_at x.0 x.1 x.2 x.3 x.4 in
+    omega (arith, o.1.is, x.4.small)
