@@ -1,5 +1,5 @@
 -- A run searched from its end: the last token, and the breaks behind it.
-use Rattle.std.specs.Prelude.{◌≡◌, refl, List, [], ◌∷◌, ◌++◌, ℕ, zero, suc, ◌+◌, ◌-◌, ◌*◌, ◌≤◌, ◌<◌, length, get_or}
+use Rattle.std.specs.Prelude.{◌≡◌, refl, List, [], ◌∷◌, ◌++◌, ℕ, zero, suc, ◌+◌, ◌-◌, ◌≤◌, ◌<◌, length}
 use Rattle.std.proofs.Common.{sym, ap, ◌∙◌, append_assoc, append-nil, arith}
 use Rattle.std.proofs.Math.Option.{some}
 use Rattle.std.proofs.Math.Decide.{dec_lt}
@@ -12,7 +12,7 @@ use Rattle.theory.specs.Machine.Rows.{size-append, toks-append}
 use Rattle.theory.specs.Records.Flat.{Word, wtok, wnod, flat, length-flat, trim, grow}
 use Rattle.theory.specs.Records.Stand.{at_right}
 use Rattle.theory.specs.Records.Scan.{flat_append, Last, empty, ends, last}
-use Rattle.updating.specs.Records.{Coded, Reads}
+use Rattle.updating.specs.Records.{cell, Coded, Reads}
 use Rattle.updating.specs.Cut.{standing-none, standing-some, standing-size, standing-toks, breaks_off, breaks_open, breaks_token}
 
 -- ---- the last token
@@ -60,20 +60,20 @@ trimmed_few (wnod q n ∷ l) = by (trim l) (trimmed_few l)
     by [] h = omega arith
     by (x ∷ u) h = omega arith
 
-module _ {G : Table} {run : List ℕ} {ws : List Word} {m : ℕ} (R : Reads G run ws) (T : Trimming ws (suc m)) where
-  at_front : (l : List Word) (w : Word) → T.front ≡ l ++ (w ∷ []) → m ≡ length l → Coded G run m w
+module _ {G : Table} {nodes : List (List ℕ)} {ws : List Word} {m : ℕ} (R : Reads G nodes ws) (T : Trimming ws (suc m)) where
+  at_front : (l : List Word) (w : Word) → T.front ≡ l ++ (w ∷ []) → m ≡ length l → Coded G nodes m w
   at_front l w e q =
       let z : ws ≡ l ++ (w ∷ T.back) = sym T.is ∙ ap (◌++ T.back) e ∙ append_assoc l (w ∷ []) T.back in
       R.at m w (ap (λ (u : List Word). get_elem? u m) z ∙ at_right l (w ∷ T.back) m 0 (omega arith))
 
-  pub last_token : get_or run (3 * m) 0 < 256 → suc m ≡ length (trim ws)
+  last_token : cell nodes m 0 < 256 → suc m ≡ length (trim ws)
   last_token h = let s = snoc T.front m T.many in by s.0 s.1 s.2 s.3
     where
       by : (l : List Word) (w : Word) → T.front ≡ l ++ (w ∷ []) → m ≡ length l → suc m ≡ length (trim ws)
       by l (wtok x) e q = T.many ∙ ap length (e ∙ sym (trim_token l x) ∙ ap trim (sym e) ∙ sym T.same)
       by l (wnod p n) e q = absurd (omega (arith, (at_front l (wnod p n) e q).kind))
 
-  pub no_token : 256 ≤ get_or run (3 * m) 0 → Trimming ws m
+  no_token : 256 ≤ cell nodes m 0 → Trimming ws m
   no_token h = let s = snoc T.front m T.many in by s.0 s.1 s.2 s.3
     where
       by : (l : List Word) (w : Word) → T.front ≡ l ++ (w ∷ []) → m ≡ length l → Trimming ws m
@@ -86,6 +86,19 @@ module _ {G : Table} {run : List ℕ} {ws : List Word} {m : ℕ} (R : Reads G ru
             many = q;
             same = T.same ∙ ap trim e ∙ trim_node l p n;
           }
+
+-- where no record from m on is a token, and the one before m is
+pub stands : {G : Table} {nodes : List (List ℕ)} {ws : List Word} (m : ℕ) → Reads G nodes ws → m ≤ length nodes → ((i : ℕ) → m ≤ i → i < length nodes → 256 ≤ cell nodes i 0)
+    → (0 < m → cell nodes (m - 1) 0 < 256) → m ≡ length (trim ws)
+stands {G} {nodes} {ws} m R h behind last = at m (down (length nodes - m) m (omega arith) (λ i a. behind i a)) last
+  where
+    down : (d i : ℕ) → i + d ≡ length nodes → ((j : ℕ) → i ≤ j → j < length nodes → 256 ≤ cell nodes j 0) → Trimming ws i
+    down zero i e k = all_front ws i (omega (arith, R.many))
+    down (suc d) i e k = no_token R (down d (suc i) (omega arith) (λ j a. k j (omega arith))) (k i (omega arith) (omega arith))
+
+    at : (i : ℕ) → Trimming ws i → (0 < i → cell nodes (i - 1) 0 < 256) → i ≡ length (trim ws)
+    at zero T l = no_front ws T
+    at (suc i) T l = let z : suc i - 1 ≡ i = omega arith in last_token R T (rw z at (l (omega arith)))
 
 -- ---- the breaks: of the row f, k are counted and the first pos records are left to look at
 pub record Breaking (f : Row) (m k pos : ℕ) : Type 0 where
@@ -120,10 +133,10 @@ pub record Broken (f : Row) (m k pos s : ℕ) : Type 0 where
   pub off : m + s ≤ pos → Breaking f m (k + 1) (pos - s)
   pub opened : pos < m + s → Breaking f m (k + 1) (pos - 1)
 
-pub broken : {G : Table} {run : List ℕ} {f : Row} {m k pos : ℕ} → Reads G run (flat f) → Breaking f m k pos → m < pos → Broken f m k pos (get_or run (3 * (pos - 1) + 2) 0)
-broken {G} {run} {f} {m} {k} {pos} R B h = by B.left (last B.left) B.is B.many B.stands B.some B.counted
+pub broken : {G : Table} {nodes : List (List ℕ)} {f : Row} {m k pos : ℕ} → Reads G nodes (flat f) → Breaking f m k pos → m < pos → Broken f m k pos (cell nodes (pos - 1) 2)
+broken {G} {nodes} {f} {m} {k} {pos} R B h = by B.left (last B.left) B.is B.many B.stands B.some B.counted
   where
-    by : (l : Row) → Last l → flat l ++ B.back ≡ flat f → pos ≡ size l → m ≡ standing l → 0 < toks l → breaks f ≡ k + breaks l → Broken f m k pos (get_or run (3 * (pos - 1) + 2) 0)
+    by : (l : Row) → Last l → flat l ++ B.back ≡ flat f → pos ≡ size l → m ≡ standing l → 0 < toks l → breaks f ≡ k + breaks l → Broken f m k pos (cell nodes (pos - 1) 2)
     by ∅ empty i a b s c = absurd (omega arith)
     by l (ends g (leaf x)) i a b s c = absurd (omega (arith, standing-some g (tok x ∅) (omega arith), size-append g (tok x ∅)))
     by l (ends g (node q d)) i a b s c =
@@ -134,7 +147,7 @@ broken {G} {run} {f} {m} {k} {pos} R B h = by B.left (last B.left) B.is B.many B
         let e : get_elem? (flat f) (pos - 1) ≡ some w =
         ap (λ (u : List Word). get_elem? u (pos - 1)) (sym z) ∙ at_right (flat g) (flat d ++ (w ∷ B.back)) (pos - 1) (size d) (omega (arith, length-flat g))
         ∙ at_right (flat d) (w ∷ B.back) (size d) 0 (omega (arith, length-flat d)) in
-        let v : get_or run (3 * (pos - 1) + 2) 0 ≡ suc (size d) = (R.at (pos - 1) w e).size in
+        let v : cell nodes (pos - 1) 2 ≡ suc (size d) = (R.at (pos - 1) w e).size in
         let t = toks-append g (nod q d ∅) in
         rw v (record {
           some = omega arith;

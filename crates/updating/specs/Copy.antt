@@ -1,8 +1,10 @@
 -- Records of a run copied onto the stack, the state after each the one that the state at its start leads to; and that a row copied so is
 -- the row put on the stack.
-use Rattle.std.specs.Prelude.{◌≡◌, List, [], ◌∷◌, ◌++◌, length, take}
+use Rattle.std.specs.Prelude.{◌≡◌, Some, None, List, [], ◌∷◌, ◌++◌, length, take}
+use Rattle.std.specs.Prelude as Prelude
+use Rattle.std.specs.Option.{unwrap_or}
 use Rattle.std.proofs.Math.Path.{refl, ap, subst}
-use Rattle.std.proofs.Common.{sym, ◌∙◌, append-nil, append_assoc, length-append, length-set, lt-ltb, le-ltb}
+use Rattle.std.proofs.Common.{sym, ◌∙◌, append-nil, append_assoc, length-append, length-take, get_or-take, lt-ltb, le-ltb}
 use Rattle.std.proofs.Math.Option
 use Rattle.std.proofs.Math.Option.{Option, some}
 use Prim.Native.Nat.{ℕ, zero, suc, ◌+◌, ◌-◌, ◌*◌, ◌≤◌, ◌<◌}
@@ -11,24 +13,30 @@ use Rattle.std.proofs.Math.Decide.{dec_lt}
 use Rattle.std.proofs.Math.Nat.{add-sub_cancel_left}
 use Rattle.std.proofs.Math.ListN.{get_or, get_elem?}
 use Rattle.std.proofs.Math.Seq.{take-length}
-use Rattle.definitions.specs.Table.{Sym, tm, nt, Act, shift_of, Table}
+use Rattle.definitions.specs.Table.{Sym, tm, nt, Table, trans}
 use Rattle.definitions.specs.Tree.{kind, Row, ∅, tok, nod, size}
 use Rattle.definitions.specs.Reading.{leaf, node, Stack, push, top, held}
 use Rattle.definitions.specs.Moves.{to, spread, right_break, standing}
 use Rattle.theory.specs.Records.Flat.{Word, wtok, wnod, flat, length-flat, trim}
 use Rattle.theory.specs.Records.FlatStack.{flat_s, break_flat, standing-flat}
 use Rattle.theory.specs.Records.Stand.{at_left, at_right, Stand, agree_stand, agree_self, bound}
+use Rattle.machine.specs.Lookups.{goto_is}
 use Rattle.machine.specs.Room.{kind_w, ident_w, size_w, enc, states_at, States, over, Holds, put}
 use Rattle.machine.specs.Laws.{enc-append, length-flat_s, top_state, states_stand, put_other, put_state, put-records}
-use Rattle.updating.specs.Records.{sym_k, num_k, Fine, Coded}
+use Rattle.updating.specs.Records.{sym_k, num_k, cell, Fine, Coded, Reads}
 use Rattle.updating.specs.Cut.{cut, break_cut, flat-cut}
 
 -- ---- where a state leads on a kind
-pub by-action : (G : Table) (s k : ℕ) {x : Act} → k < 256 → x ≡ G.act s k → Option.get_or (shift_of x) 0 ≡ to G s (sym_k G k)
-by-action G s k h e = rw (lt-ltb k 256 h) (ap (λ (a : Act). Option.get_or (shift_of a) 0) e)
+pub by-goto : (G : Table) (s k : ℕ) {x : Option ℕ} → 256 ≤ k → x ≡ G.goto s (G.lhs (k - 256)) → x ≡ trans G s (sym_k G k)
+by-goto G s k h e = rw (le-ltb k 256 h) e
 
-pub by-goto : (G : Table) (s k : ℕ) {x : Option ℕ} → 256 ≤ k → x ≡ G.goto s (G.lhs (k - 256)) → Option.get_or x 0 ≡ to G s (sym_k G k)
-by-goto G s k h e = rw (le-ltb k 256 h) (ap (λ (o : Option ℕ). Option.get_or o 0) e)
+-- or 0, as `to` has it
+pub or_zero : (G : Table) (s k : ℕ) (o : Prelude.Option ℕ) → goto_is o ≡ trans G s (sym_k G k) → unwrap_or o 0 ≡ to G s (sym_k G k)
+or_zero G s k o e = by o ∙ ap (λ (x : Option ℕ). Option.get_or x 0) e
+  where
+    by : (o : Prelude.Option ℕ) → unwrap_or o 0 ≡ Option.get_or (goto_is o) 0
+    by (Some v) = refl
+    by None = refl
 
 abbrev pub sym_w : Table → Word → Sym
 sym_w G (wtok x) = tm (kind x)
@@ -37,6 +45,27 @@ sym_w G (wnod q n) = nt (G.lhs q)
 sym-kind : (G : Table) (w : Word) → Fine G w → sym_k G (kind_w w) ≡ sym_w G w
 sym-kind G (wtok x) f = rw (lt-ltb (kind x) 256 f.1) refl
 sym-kind G (wnod q n) f = rw (le-ltb (256 + q) 256 (omega arith), add-sub_cancel_left 256 q) refl
+
+-- ---- nodes are the first records of ws
+pub record Front (G : Table) (nodes : List (List ℕ)) (ws : List Word) : Type 0 where
+  pub few : length nodes ≤ length ws
+  pub at : (i : ℕ) (w : Word) → i < length nodes → get_elem? ws i ≡ some w → Coded G nodes i w
+
+pub front : {G : Table} {nodes : List (List ℕ)} {ws : List Word} (m : ℕ) → Reads G nodes ws → Front G (take m nodes) ws
+front {G} {nodes} m R =
+    let l = length-take m nodes in
+    record {
+      few = omega (arith, R.many);
+      at = λ i w h e.
+          let c = R.at i w e in
+          let z : get_or (take m nodes) i [] ≡ get_or nodes i [] = get_or-take m nodes i [] (omega arith) in
+          record {
+            fine = c.fine;
+            kind = ap (λ (u : List ℕ). get_or u 0 0) z ∙ c.kind;
+            ident = ap (λ (u : List ℕ). num_k (kind_w w) (get_or u 1 0)) z ∙ c.ident;
+            size = ap (λ (u : List ℕ). get_or u 2 0) z ∙ c.size;
+          };
+    }
 
 -- ---- the first j records of ws copied after the n nodes of r₀
 pub record Copied (G : Table) (r₀ r : List ℕ) (n : ℕ) (ws : List Word) (j : ℕ) : Type 0 where
@@ -82,11 +111,11 @@ rooted f = record { at = by }
 
 module _ (G : Table) {r₀ r : List ℕ} {n : ℕ} {ws : List Word} {j : ℕ} (C : Copied G r₀ r n ws j) (R : Rooted ws) (long : 16384 ≤ length r) (room : n + j < 2048) where
   -- one record more, as the run has it
-  pub copied_one : {run : List ℕ} {a : ℕ} (w : Word) → a ≡ j → get_elem? ws j ≡ some w → Coded G run a w
-      → (s : ℕ) → s ≡ to G (get_or r (states_at + (n + j + 1 - get_or run (3 * a + 2) 0)) 0) (sym_k G (get_or run (3 * a) 0))
-      → Copied G r₀ (put r (n + j) s (get_or run (3 * a) 0) (num_k (get_or run (3 * a) 0) (get_or run (3 * a + 1) 0)) (get_or run (3 * a + 2) 0)) n ws (j + 1)
+  pub copied_one : {nodes : List (List ℕ)} (w : Word) → get_elem? ws j ≡ some w → Coded G nodes j w
+      → (s : ℕ) → s ≡ to G (get_or r (states_at + (n + j + 1 - cell nodes j 2)) 0) (sym_k G (cell nodes j 0))
+      → Copied G r₀ (put r (n + j) s (cell nodes j 0) (num_k (cell nodes j 0) (cell nodes j 1)) (cell nodes j 2)) n ws (j + 1)
   unfolding enc
-  copied_one {run} {a} w q e c s z =
+  copied_one {nodes} w e c s z =
       let p : j + 1 ≡ suc j = omega arith in
       let m : n + suc j ≡ n + j + 1 = omega arith in
       let k = c.kind in
@@ -116,9 +145,6 @@ module _ (G : Table) {r₀ r : List ℕ} {n : ℕ} {ws : List Word} {j : ℕ} (C
           subst (λ (y : Word). get_or (put r (n + j) s (kind_w w) (ident_w w) (size_w w)) (states_at + (n + suc b)) 0 ≡ to G (get_or (put r (n + j) s (kind_w w) (ident_w w) (size_w w)) (states_at + (n + suc b - size_w y)) 0) (sym_w G y)) x'
           (rw m (put_state r (n + j) s (kind_w w) (ident_w w) (size_w w) long room ∙ z
           ∙ ap (λ (y : ℕ). to G y (sym_w G w)) (sym (put_other r (n + j) s (kind_w w) (ident_w w) (size_w w) (states_at + (n + j + 1 - size_w w)) (omega arith) (omega arith)))))
-
-pub length-put : (r : List ℕ) (n s a b c : ℕ) → length (put r n s a b c) ≡ length r
-length-put r n s a b c = simp length-set
 
 -- ---- a row whose records are copied is on the stack
 module _ (G : Table) {r₀ r : List ℕ} {n : ℕ} {ws : List Word} {j : ℕ} (C : Copied G r₀ r n ws j) where

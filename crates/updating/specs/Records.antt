@@ -1,6 +1,7 @@
 -- The records of a run: what its words say of each.
-use Rattle.std.specs.Prelude.{◌≡◌, refl, cond, List, [], ◌∷◌, ℕ, zero, suc, ◌+◌, ◌-◌, ◌*◌, ◌≤◌, ◌<◌, ltb, length, get_or}
-use Rattle.std.proofs.Common.{sym, ap, ◌∙◌, subst, arith, lt-ltb, le-ltb}
+use Rattle.std.specs.Prelude.{◌≡◌, refl, cond, List, [], ◌∷◌, ℕ, zero, suc, ◌+◌, ◌-◌, ◌*◌, ◌/◌, ◌≤◌, ◌<◌, ltb, length, get_or, drop}
+use Rattle.std.specs.Simd.{first_chunks}
+use Rattle.std.proofs.Common.{sym, ap, ◌∙◌, subst, arith, lt-ltb, le-ltb, get_or-take, get_or-drop}
 use Rattle.std.proofs.Math.Option.{some}
 use Rattle.std.proofs.Math.Decide.{dec_lt}
 use Rattle.std.proofs.Math.ListN.{get_elem?}
@@ -29,17 +30,25 @@ abbrev pub Fine : Table → Word → Type 0
 Fine G (wtok x) = (0 < kind x) × (kind x < 256)
 Fine G (wnod q n) = q < G.prods
 
--- record i of the run is w
-pub record Coded (G : Table) (run : List ℕ) (i : ℕ) (w : Word) : Type 0 where
-  pub fine : Fine G w
-  pub kind : get_or run (3 * i) 0 ≡ kind_w w
-  pub ident : num_k (kind_w w) (get_or run (3 * i + 1) 0) ≡ ident_w w
-  pub size : get_or run (3 * i + 2) 0 ≡ size_w w
+-- the records of a run, three words each
+abbrev pub records_of : List ℕ → List (List ℕ)
+records_of run = first_chunks 3 (length run / 3) run
 
--- the run's records are ws
-pub record Reads (G : Table) (run : List ℕ) (ws : List Word) : Type 0 where
-  pub many : length run ≡ 3 * length ws
-  pub at : (i : ℕ) (w : Word) → get_elem? ws i ≡ some w → Coded G run i w
+-- word j of record i: its kind, its number, its size
+abbrev pub cell : List (List ℕ) → ℕ → ℕ → ℕ
+cell nodes i j = get_or (get_or nodes i []) j 0
+
+-- record i is w
+pub record Coded (G : Table) (nodes : List (List ℕ)) (i : ℕ) (w : Word) : Type 0 where
+  pub fine : Fine G w
+  pub kind : cell nodes i 0 ≡ kind_w w
+  pub ident : num_k (kind_w w) (cell nodes i 1) ≡ ident_w w
+  pub size : cell nodes i 2 ≡ size_w w
+
+-- the records are ws
+pub record Reads (G : Table) (nodes : List (List ℕ)) (ws : List Word) : Type 0 where
+  pub many : length nodes ≡ length ws
+  pub at : (i : ℕ) (w : Word) → get_elem? ws i ≡ some w → Coded G nodes i w
 
 -- ---- the records of what stands in the old row
 pub record Coded-old (G : Table) (old : List ℕ) (j : ℕ) (w : Word) : Type 0 where
@@ -86,28 +95,42 @@ get_d_cells row i (suc n) (suc j) h = let z : suc i + j ≡ i + suc j = omega ar
 within : (ws : List Word) (i : ℕ) {w : Word} → get_elem? ws i ≡ some w → i < length ws
 within ws i e = Rattle.theory.specs.Records.Stand.at_beyond ws i e
 
+-- ---- the words of a run's records
+length-chunks : (n k : ℕ) (xs : List ℕ) → length (first_chunks n k xs) ≡ k
+length-chunks n zero xs = refl
+length-chunks n (suc k) xs = ap suc (length-chunks n k (drop n xs))
+
+cell-chunks : (k i j : ℕ) (xs : List ℕ) → i < k → j < 3 → cell (first_chunks 3 k xs) i j ≡ get_or xs (3 * i + j) 0
+cell-chunks zero i j xs h l = absurd (omega arith)
+cell-chunks (suc k) zero j xs h l = let z : 3 * 0 + j ≡ j = omega arith in rw z (get_or-take 3 xs j 0 l)
+cell-chunks (suc k) (suc i) j xs h l =
+    let z : 3 * suc i + j ≡ 3 + (3 * i + j) = omega arith in
+    cell-chunks k i j (drop 3 xs) (omega arith) l ∙ get_or-drop 3 xs (3 * i + j) 0 ∙ ap (λ (m : ℕ). get_or xs m 0) (sym z)
+
 -- ---- a piece's run
-pub piece_reads : {t old : List ℕ} {v : ℕ} {x : Tree} → T t ≤ 256 → (P : Piece t old v x) → Reads (table_of t) (words P.row) (flat (cons x ∅))
+pub piece_reads : {t old : List ℕ} {v : ℕ} {x : Tree} → T t ≤ 256 → (P : Piece t old v x) → Reads (table_of t) (records_of (words P.row)) (flat (cons x ∅))
 piece_reads {t} {old} {v} {x} few P =
     let a = P.start in
     let f = P.row in
     let n = size (erase f) in
     let c = stands_words old a f P.forest.stands in
+    let k : length (words f) / 3 ≡ n = omega (arith, length-words f) in
     record {
-      many = length-words f ∙ ap (3 *◌) (ap size P.is ∙ sym (length-flat (cons x ∅)));
+      many = length-chunks 3 (length (words f) / 3) (words f) ∙ k ∙ ap size P.is ∙ sym (length-flat (cons x ∅));
       at = λ i w e.
           let e' : get_elem? (recs f) i ≡ some w = ap (λ (g : Row). get_elem? (flat g) i) P.is ∙ e in
           let o = old_at few P.forest i (a + i) w refl e' in
           let h : i < n = omega (arith, within (recs f) i e', length-flat (erase f)) in
-          let z0 : 2 + 3 * a + 3 * i ≡ 2 + 3 * (a + i) = omega arith in
+          let z0 : 2 + 3 * a + (3 * i + 0) ≡ 2 + 3 * (a + i) = omega arith in
           let z1 : 2 + 3 * a + (3 * i + 1) ≡ 2 + 3 * (a + i) + 1 = omega arith in
           let z2 : 2 + 3 * a + (3 * i + 2) ≡ 2 + 3 * (a + i) + 2 = omega arith in
-          let g : (j : ℕ) → j < 3 * n → get_or (words f) j 0 ≡ get_or old (2 + 3 * a + j) 0 = λ j l. ap (λ (u : List ℕ). get_or u j 0) (sym c) ∙ get_d_cells old (2 + 3 * a) (3 * n) j l in
+          let g : (j : ℕ) → j < 3 → cell (records_of (words f)) i j ≡ get_or old (2 + 3 * a + (3 * i + j)) 0 =
+          λ j l. cell-chunks (length (words f) / 3) i j (words f) (omega arith) l ∙ ap (λ (u : List ℕ). get_or u (3 * i + j) 0) (sym c) ∙ get_d_cells old (2 + 3 * a) (3 * n) (3 * i + j) (omega arith) in
           record {
             fine = o.fine;
-            kind = g (3 * i) (omega arith) ∙ ap (λ (m : ℕ). get_or old m 0) z0 ∙ o.kind;
-            ident = ap (num_k (kind_w w)) (g (3 * i + 1) (omega arith) ∙ ap (λ (m : ℕ). get_or old m 0) z1) ∙ o.ident;
-            size = g (3 * i + 2) (omega arith) ∙ ap (λ (m : ℕ). get_or old m 0) z2 ∙ o.size;
+            kind = g 0 (omega arith) ∙ ap (λ (m : ℕ). get_or old m 0) z0 ∙ o.kind;
+            ident = ap (num_k (kind_w w)) (g 1 (omega arith) ∙ ap (λ (m : ℕ). get_or old m 0) z1) ∙ o.ident;
+            size = g 2 (omega arith) ∙ ap (λ (m : ℕ). get_or old m 0) z2 ∙ o.size;
           };
     }
 
@@ -118,9 +141,9 @@ word_at (x ∷ ws) zero h = (x, refl)
 word_at (x ∷ ws) (suc i) h = word_at ws i (omega arith)
 
 -- a kind from 256 on is of a production of the table
-pub known : (t : List ℕ) {run : List ℕ} {i : ℕ} {w : Word} → Coded (table_of t) run i w → 256 ≤ get_or run (3 * i) 0 → get_or run (3 * i) 0 - 256 < P t
-known t {run} {i} {w} c h = by w c.fine c.kind
+pub known : (t : List ℕ) {nodes : List (List ℕ)} {i : ℕ} {w : Word} → Coded (table_of t) nodes i w → 256 ≤ cell nodes i 0 → cell nodes i 0 - 256 < P t
+known t {nodes} {i} {w} c h = by w c.fine c.kind
   where
-    by : (w : Word) → Fine (table_of t) w → get_or run (3 * i) 0 ≡ kind_w w → get_or run (3 * i) 0 - 256 < P t
+    by : (w : Word) → Fine (table_of t) w → cell nodes i 0 ≡ kind_w w → cell nodes i 0 - 256 < P t
     by (wtok x) f k = absurd (omega (arith, f.1))
     by (wnod q n) f k = omega (arith, prods_is t)

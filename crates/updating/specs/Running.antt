@@ -1,22 +1,24 @@
 -- The loop of turns: what is left of the reading comes to what the whole comes to.
-use Rattle.std.specs.Prelude.{◌≡◌, refl, cond, List, ℕ, zero, suc, ◌+◌, ◌-◌, ◌*◌, ◌≤◌, ◌<◌, ltb, get_or}
-use Rattle.std.proofs.Common.{sym, ap, ◌∙◌, arith, lt-ltb, le-ltb}
+use Rattle.std.specs.Prelude.{◌≡◌, refl, cond, Result, Ok, Err, List, ℕ, zero, suc, ◌+◌, ◌-◌, ◌*◌, ◌≤◌, ◌<◌, ltb, get_or}
+use Rattle.std.proofs.Common.{sym, ap, ◌∙◌, subst, arith, lt-ltb, le-ltb}
 use Rattle.definitions.specs.Table.{table_of}
 use Rattle.definitions.specs.Tree.{Row, ∅, size, toks, yield, look}
-use Rattle.definitions.specs.Reading.{Tree, leaf, node, cons, Stack, bot, shifted, End, taken, refused, Counts, zeros, Move, reduction, token_shift, whole_shift, left_break, stop}
+use Rattle.definitions.specs.Reading.{Tree, leaf, node, cons, Stack, bot, shifted, End, taken, Counts, zeros, Move, reduction, token_shift, whole_shift, left_break, stop}
 use Rattle.definitions.specs.Moves.{cost, tally, turn, Done, read, reading}
 use Rattle.theory.specs.Machine.Rows.{toks-length}
 use Rattle.theory.specs.Machine.Room.{moved}
 use Rattle.answers.specs.Values.{counts_of}
+use Rattle.answers.specs.declared.Counts as Code
+use Rattle.answers.specs.declared.Refusal.{Refusal}
+use Rattle.machine.specs.declared.Stuck.{Stuck}
+use Rattle.machine.specs.Back.{stuck_of}
 use Rattle.machine.specs.Room.{Holds}
-use Rattle.reading.specs.Turns.{read-on, read_stop}
+use Rattle.reading.specs.Turns.{end_of, read-on, read_stop}
 use Rattle.tree.specs.Rows.{size_at}
 use Rattle.list.specs.Pieces.{root}
 use Rattle.list.specs.Pending.{list_at, Pending, none, piece, code}
 use Rattle.updating.specs.Turns.{Listed, Goes, Above}
 use Rattle.updating.specs.Shrink.{broken, Still, shrunk}
-use Rattle.updating.specs.declared.End as EndOf
-use Rattle.updating.specs.declared.End.TheVariants.{Taken, NoAction, NoRoom, NoGoto}
 
 -- ---- the nodes of the list, by its words
 abbrev pub entry_size : List ℕ → ℕ → ℕ
@@ -48,16 +50,15 @@ pub record Accepts (r : List ℕ) (d : Done) (n : ℕ) (k : Counts) : Type 0 whe
   pub small : n ≤ 2048
   pub holds : Holds r n stack
 
-abbrev pub Ends : List ℕ → Done → EndOf.End → Type 0
-Ends r d (Taken n k) = Accepts r d n (counts_of k)
-Ends r d (NoAction i) = (d.end ≡ refused 7 i) × (i ≤ 2048)
-Ends r d NoRoom = d.end ≡ refused 8 0
-Ends r d NoGoto = d.end ≡ refused 10 0
+-- a refusal that a reading can end with: by what stopped it, and the tokens shifted, of which there are few
+abbrev pub Stopped : Refusal → Type 0
+Stopped e = (s : Stuck) × (i : ℕ) × (i ≤ 2048) × (end_of e ≡ stuck_of i s)
+
+abbrev pub Ends : List ℕ → Done → Result (ℕ × Code.Counts) Refusal → Type 0
+Ends r d (Ok a) = Accepts r d a.0 (counts_of a.1)
+Ends r d (Err e) = (d.end ≡ end_of e) × Stopped e
 
 -- ---- the loop
-abbrev pub counting : ℕ → ℕ → ℕ → ℕ → ℕ → Counts
-counting a b c d e = record { lefts = a; rights = b; wholes = c; shifts = d; reductions = e }
-
 pub record Running (t old put r₀ r : List ℕ) (f₀ : Row) (n m next : ℕ) (k : Counts) : Type 0 where
   pub small : n ≤ 2048
   pub above : Above r₀ r
@@ -96,6 +97,19 @@ one_of reduction k = (omega arith, omega arith)
 one_of token_shift k = (omega arith, omega arith)
 one_of (whole_shift c) k = (omega arith, omega arith)
 one_of left_break k = (omega arith, omega arith)
+
+-- counts agree field by field
+counts-same : (a b : Counts) → a.lefts ≡ b.lefts → a.rights ≡ b.rights → a.wholes ≡ b.wholes → a.shifts ≡ b.shifts → a.reductions ≡ b.reductions → a ≡ b
+counts-same a b p q u v w =
+    ap (λ (x : ℕ). record { lefts = x; rights = a.rights; wholes = a.wholes; shifts = a.shifts; reductions = a.reductions }) p
+    ∙ ap (λ (x : ℕ). record { lefts = b.lefts; rights = x; wholes = a.wholes; shifts = a.shifts; reductions = a.reductions }) q
+    ∙ ap (λ (x : ℕ). record { lefts = b.lefts; rights = b.rights; wholes = x; shifts = a.shifts; reductions = a.reductions }) u
+    ∙ ap (λ (x : ℕ). record { lefts = b.lefts; rights = b.rights; wholes = b.wholes; shifts = x; reductions = a.reductions }) v
+    ∙ ap (λ (x : ℕ). record { lefts = b.lefts; rights = b.rights; wholes = b.wholes; shifts = b.shifts; reductions = x }) w
+
+pub with_counts : {t old put r₀ r : List ℕ} {f₀ : Row} {n m next : ℕ} {k : Counts} (k' : Counts) → Running t old put r₀ r f₀ n m next k
+    → k.lefts ≡ k'.lefts → k.rights ≡ k'.rights → k.wholes ≡ k'.wholes → k.shifts ≡ k'.shifts → k.reductions ≡ k'.reductions → Running t old put r₀ r f₀ n m next k'
+with_counts {t} {old} {put} {r₀} {r} {f₀} {n} {m} {next} {k} k' R p q u v w = subst (λ (x : Counts). Running t old put r₀ r f₀ n m next x) (counts-same k k' p q u v w) R
 
 pub above_on : {r₀ r r' : List ℕ} → Above r₀ r → Above r r' → Above r₀ r'
 above_on A B = record { rest = B.rest ∙ A.rest; long = B.long ∙ A.long }

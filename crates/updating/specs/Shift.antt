@@ -1,5 +1,5 @@
 -- A whole shift: the piece over the stack, and what it comes to.
-use Rattle.std.specs.Prelude.{◌≡◌, refl, ℕ, suc, ◌+◌, ◌≤◌, ◌<◌, length, take}
+use Rattle.std.specs.Prelude.{◌≡◌, refl, Option, Some, None, ℕ, suc, ◌+◌, ◌≤◌, ◌<◌, length, take}
 use Rattle.std.proofs.Common.{sym, ap, ◌∙◌, arith, take_at}
 use mathlib.Core.List.{List, [], ◌∷◌, ◌++◌}
 use Rattle.std.proofs.Math.ListN.{get_elem?}
@@ -13,15 +13,14 @@ use Rattle.theory.specs.Records.Flat.{Word, wtok, wnod, flat, trim, grow}
 use Rattle.theory.specs.Records.FlatStack.{standing-flat}
 use Rattle.theory.specs.Records.Stand.{at_in}
 use Rattle.machine.specs.Room.{Holds}
-use Rattle.updating.specs.Records.{Reads}
+use Rattle.updating.specs.Records.{records_of, Reads}
 use Rattle.updating.specs.Copy.{Copied, copied_all}
 use Rattle.updating.specs.declared.shifting.Whole.{Whole}
-use Rattle.updating.specs.declared.shifting.Whole.TheVariants.{Held, Full}
 
 -- the run is of the piece q over c, which has tokens, and the room holds σ
 pub record Ripe (G : Table) (run r : List ℕ) (n : ℕ) (σ : Stack) (q : ℕ) (c : Row) : Type 0 where
   pub holds : Holds r n σ
-  pub reads : Reads G run (flat (nod q c ∅))
+  pub reads : Reads G (records_of run) (flat (nod q c ∅))
   pub some : 0 < toks c
 
 pub record Shifted (G : Table) (r : List ℕ) (n : ℕ) (σ : Stack) (c : Row) (m b : ℕ) : Type 0 where
@@ -31,9 +30,9 @@ pub record Shifted (G : Table) (r : List ℕ) (n : ℕ) (σ : Stack) (c : Row) (
   pub broken : b ≡ suc (breaks c)
 
 -- what a whole shift comes to
-abbrev pub Shifts : Table → List ℕ → ℕ → Stack → Row → Whole → Type 0
-Shifts G r n σ c (Held m b) = Shifted G r n σ c m b
-Shifts G r n σ c Full = 2048 < n + standing c
+abbrev pub Shifts : Table → List ℕ → ℕ → Stack → Row → Option Whole → Type 0
+Shifts G r n σ c (Some w) = Shifted G r n σ c w.held w.breaks
+Shifts G r n σ c None = 2048 < n + standing c
 
 prefix : (l : List Word) → (b : List Word) × (trim l ++ b ≡ l)
 prefix [] = ([], refl)

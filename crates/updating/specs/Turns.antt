@@ -1,5 +1,7 @@
 -- What a turn of the code says of the definitions' turn: the list and the stack before it and after it.
-use Rattle.std.specs.Prelude.{◌≡◌, refl, List, ℕ, zero, suc, ◌+◌, ◌-◌, ◌*◌, ◌≤◌, ◌<◌, length, get_or, take, drop}
+use Rattle.std.specs.Prelude.{◌≡◌, refl, true, false, Some, None, Result, Ok, Err, List, ℕ, zero, suc, ◌+◌, ◌-◌, ◌*◌, ◌≤◌, ◌<◌, length, get_or, take, drop}
+use Rattle.std.specs.Prelude as Prelude
+use Rattle.std.specs.Option.{is_some}
 use Rattle.std.proofs.Common.{sym, ap, ◌∙◌, subst, arith, get_or-drop, get_or-take, take-take, drop-drop}
 use Rattle.std.proofs.Math.Option.{Option, some}
 use Rattle.std.proofs.Math.Decide.{dec_le}
@@ -13,9 +15,11 @@ use Rattle.definitions.specs.Moves as Moves
 use Rattle.definitions.specs.Edits.{Codes}
 use Rattle.theory.specs.Machine.Rows.{toks-length}
 use Rattle.theory.specs.Machine.Update.{yield-left}
+use Rattle.machine.specs.Lookups.{goto_is}
 use Rattle.machine.specs.Room.{states_end, Holds}
 use Rattle.machine.specs.Laws.{states_stand}
-use Rattle.machine.specs.Back.{Landed}
+use Rattle.machine.specs.declared.Stuck.{Stuck}
+use Rattle.machine.specs.Back.{stuck_of, Landed, Lands}
 use Rattle.tree.specs.Shaped as Rows
 use Rattle.tree.specs.Rows.{length-words}
 use Rattle.list.specs.Pieces.{Piece}
@@ -24,6 +28,7 @@ use Rattle.list.specs.Opening.{Opens, Elsewhere}
 use Rattle.list.specs.Weigh.{Counting}
 use Rattle.updating.specs.Records.{piece_reads}
 use Rattle.updating.specs.Shift.{Ripe, Shifted}
+use Rattle.machine.specs.declared.Move.TheVariants as Afresh
 use Rattle.updating.specs.declared.Turn.{Turn}
 use Rattle.updating.specs.declared.Turn.TheVariants as Code
 
@@ -82,27 +87,19 @@ pub record Wholly (t old put r : List ℕ) (m : ℕ) (o : Reading.Turn) (n b : �
   pub goes : Goes t old put r n m o (whole_shift kids)
   pub broken : b ≡ suc (breaks kids)
 
--- the turn o over the n nodes of σ and a list of m words, f, by the code's outcome
-abbrev pub Does : List ℕ → List ℕ → List ℕ → List ℕ → ℕ → ℕ → Stack → Row → Reading.Turn → Turn → Type 0
-Does t old put r n m σ f o Code.Shifted = Goes t old put r (n + 1) (m - 1) o token_shift × (0 < m)
-Does t old put r n m σ f o Code.Reduced = Goes t old put r (n + 1) m o reduction
-Does t old put r n m σ f o (Code.Whole h b) = Wholly t old put r (m - 1) o h b × (0 < m)
-Does t old put r n m σ f o (Code.Left k) = Goes t old put r n k o left_break
-Does t old put r n m σ f o Code.Taken = (o ≡ stop (taken σ)) × Holds r n σ
-Does t old put r n m σ f o Code.NoAction = (o ≡ stop (refused 7 (shifted σ))) × Listed t old put r m f
-Does t old put r n m σ f o Code.NoRoom = o ≡ stop (refused 8 0)
-Does t old put r n m σ f o Code.NoGoto = o ≡ stop (refused 10 0)
+-- the turn o over the n nodes of σ and a list of m words, f, by the code's outcome; where it stops, the list is as it was
+abbrev pub Does : List ℕ → List ℕ → List ℕ → List ℕ → ℕ → ℕ → Stack → Row → Reading.Turn → Result Turn Stuck → Type 0
+Does t old put r n m σ f o (Ok (Code.Plain Afresh.Shifted)) = Goes t old put r (n + 1) (m - 1) o token_shift × (0 < m)
+Does t old put r n m σ f o (Ok (Code.Plain Afresh.Reduced)) = Goes t old put r (n + 1) m o reduction
+Does t old put r n m σ f o (Ok (Code.Whole w)) = Wholly t old put r (m - 1) o w.held w.breaks × (0 < m)
+Does t old put r n m σ f o (Ok (Code.Left k)) = Goes t old put r n k o left_break
+Does t old put r n m σ f o (Ok (Code.Plain Afresh.Taken)) = (o ≡ stop (taken σ)) × Holds r n σ
+Does t old put r n m σ f o (Err e) = (o ≡ stop (stuck_of (shifted σ) e)) × Listed t old put r m f
 
 -- ---- a reduction
-abbrev pub Reduces : List ℕ → ℕ → Row → Reading.Turn → Turn → Type 0
-Reduces r n f o Code.Reduced = Landed r n f o
-Reduces r n f o Code.NoRoom = o ≡ stop (refused 8 0)
-Reduces r n f o Code.NoGoto = o ≡ stop (refused 10 0)
-Reduces r n f o Code.Shifted = ⊥
-Reduces r n f o (Code.Whole h b) = ⊥
-Reduces r n f o (Code.Left k) = ⊥
-Reduces r n f o Code.Taken = ⊥
-Reduces r n f o Code.NoAction = ⊥
+abbrev pub Reduces : List ℕ → ℕ → Row → Reading.Turn → Result Unit Stuck → Type 0
+Reduces r n f o (Ok _) = Landed r n f o
+Reduces r n f o (Err e) = (i : ℕ) → o ≡ stop (stuck_of i e)
 
 -- ---- a piece next: the entry v on top of the list
 pub record Facing (t old put run r : List ℕ) (n m v : ℕ) (σ : Stack) (f : Row) : Type 0 where
@@ -120,6 +117,15 @@ pub record Facing (t old put run r : List ℕ) (n m v : ℕ) (σ : Stack) (f : R
 
 toks_nod : (q : ℕ) (c f : Row) → toks (tokened c ⧺ f) ≡ toks (nod q c f)
 toks_nod q c f = toks-length (tokened c ⧺ f) ∙ ap length (yield-left c f) ∙ sym (toks-length (nod q c f))
+
+-- the code's goto, none or one
+pub no_goto : (o : Prelude.Option ℕ) → is_some o ≡ false → goto_is o ≡ Option.none
+no_goto (Some s) e = cc
+no_goto None e = refl
+
+pub a_goto : (o : Prelude.Option ℕ) → is_some o ≡ true → (s : ℕ) × (goto_is o ≡ some s)
+a_goto (Some s) e = (s, refl)
+a_goto None e = absurd (cc)
 
 module _ {t old put run r : List ℕ} {n m v : ℕ} {σ : Stack} {f : Row} (F : Facing t old put run r n m v σ f) where
   pub ripe : Ripe (table_of t) run r n σ F.prod F.kids
@@ -184,11 +190,12 @@ module _ (G : Table) (n p : ℕ) (σ : Stack) (f : Row) where
   pub reduce_full : 2048 ≤ n → Reading.reduce G (2048 - n) p σ f ≡ stop (refused 8 0)
   reduce_full h = let e : 2048 - n ≡ 0 = omega arith in rw e refl
 
-  pub reduce-some : n < 2048 → Reading.reduce G (2048 - n) p σ f ≡ Reading.settle G p f (Reading.pop (length (G.rhs p)) σ ∅)
+  reduce-some : n < 2048 → Reading.reduce G (2048 - n) p σ f ≡ Reading.settle G p f (Reading.pop (length (G.rhs p)) σ ∅)
   reduce-some h = let e : 2048 - n ≡ suc (2047 - n) = omega arith in rw e refl
 
-  pub reduce_lands : {r : List ℕ} → n < 2048 → Landed r n f (Reading.settle G p f (Reading.pop (length (G.rhs p)) σ ∅)) → Landed r n f (Reading.reduce G (2048 - n) p σ f)
-  reduce_lands h L = record { stack = L.stack; is = reduce-some h ∙ L.is; holds = L.holds }
+  pub reduces : (r : List ℕ) (o : Result Unit Stuck) → n < 2048 → Lands r n f (Reading.settle G p f (Reading.pop (length (G.rhs p)) σ ∅)) o → Reduces r n f (Reading.reduce G (2048 - n) p σ f) o
+  reduces r (Ok u) h L = record { stack = L.stack; is = reduce-some h ∙ L.is; holds = L.holds }
+  reduces r (Err e) h L = λ i. reduce-some h ∙ L.1 ∙ ap (λ (s : Stuck). stop (stuck_of i s)) (sym L.0)
 
 -- ---- a token next: the list behind it
 pub behind : {t old put r : List ℕ} {m : ℕ} {f : Row} {x : Tok} {g : Row} → Listed t old put r m f → f ≡ tok x g → (0 < m) × Listed t old put r (m - 1) g
@@ -213,21 +220,16 @@ turn_reduces G r p σ ∅ e = ap (λ (a : Act). Reading.plain G r a σ ∅) e
 turn_reduces G r p σ (tok x f) e = ap (λ (a : Act). Reading.plain G r a σ (tok x f)) e
 turn_reduces G r p σ (nod q c f) e = ap (λ (a : Act). Moves.piece G r a σ q c f) e
 
-pub reduces : {t old put r : List ℕ} {m : ℕ} {f : Row} {k : ℕ} {x : Act} (n p : ℕ) (σ : Stack) (r' : List ℕ) (o : Turn) → Listed t old put r m f → drop states_end r' ≡ drop states_end r → x ≡ (table_of t).act (top σ) k
-    → k ≡ look 0 (yield f) → x ≡ red p → Reduces r' n f (Reading.reduce (table_of t) (2048 - n) p σ f) o → Does t old put r' n m σ f (turn (table_of t) (2048 - n) σ f) o
-reduces {t} {old} {put} {r} {m} {f} n p σ r' o L d e l z D =
-    let w = turn_reduces (table_of t) (2048 - n) p σ f (ap ((table_of t).act (top σ)) (sym l) ∙ sym e ∙ z) in
-    by o (subst (λ (y : Reading.Turn). Reduces r' n f y o) (sym w) D)
-  where
-    by : (o : Turn) → Reduces r' n f (turn (table_of t) (2048 - n) σ f) o → Does t old put r' n m σ f (turn (table_of t) (2048 - n) σ f) o
-    by Code.Reduced D = record { stack = D.stack; rest = f; is = D.is; holds = D.holds; listed = list_stands d L }
-    by Code.NoRoom D = D
-    by Code.NoGoto D = D
-    by Code.Shifted D = absurd D
-    by (Code.Whole h b) D = absurd D
-    by (Code.Left j) D = absurd D
-    by Code.Taken D = absurd D
-    by Code.NoAction D = absurd D
+module _ {t old put r : List ℕ} {m : ℕ} {f : Row} {k : ℕ} {x : Act} (n p : ℕ) (σ : Stack) (L : Listed t old put r m f) (e : x ≡ (table_of t).act (top σ) k) (l : k ≡ look 0 (yield f)) (z : x ≡ red p) where
+  is_reduction : turn (table_of t) (2048 - n) σ f ≡ Reading.reduce (table_of t) (2048 - n) p σ f
+  is_reduction = turn_reduces (table_of t) (2048 - n) p σ f (ap ((table_of t).act (top σ)) (sym l) ∙ sym e ∙ z)
+
+  pub reduced : {r' : List ℕ} → drop states_end r' ≡ drop states_end r → Landed r' n f (Reading.reduce (table_of t) (2048 - n) p σ f) → Does t old put r' n m σ f (turn (table_of t) (2048 - n) σ f) (Ok (Code.Plain Afresh.Reduced))
+  reduced d D = record { stack = D.stack; rest = f; is = is_reduction ∙ D.is; holds = D.holds; listed = list_stands d L }
+
+  pub not_reduced : {r' : List ℕ} (s : Stuck) → drop states_end r' ≡ drop states_end r → ((i : ℕ) → Reading.reduce (table_of t) (2048 - n) p σ f ≡ stop (stuck_of i s))
+      → Does t old put r' n m σ f (turn (table_of t) (2048 - n) σ f) (Err s)
+  not_reduced s d D = (is_reduction ∙ D (shifted σ), list_stands d L)
 
 -- ---- a piece next, where the action on its first token is no reduction
 pub data Other : Act → Type 0 where
@@ -247,7 +249,7 @@ module _ {t old put run r : List ℕ} {n m v : ℕ} {σ : Stack} {f : Row} (F : 
   abbrev over : Option ℕ
   over = G.goto (top σ) (G.lhs F.prod)
 
-  pub enters : {k : ℕ} {x : Act} (r' : List ℕ) (o : Turn) → x ≡ G.act (top σ) k → k ≡ look 0 (yield f) → Other x
+  pub enters : {k : ℕ} {x : Act} (r' : List ℕ) (o : Result Turn Stuck) → x ≡ G.act (top σ) k → k ≡ look 0 (yield f) → Other x
       → Does t old put r' n m σ f (Moves.enter G (2048 - n) σ F.kids F.rest over) o → Does t old put r' n m σ f (turn G (2048 - n) σ f) o
   enters {k} {x} r' o e l y D = subst (λ (w : Reading.Turn). Does t old put r' n m σ f w o) (sym (is_piece ∙ ap (λ (a : Act). Moves.piece G (2048 - n) a σ F.prod F.kids F.rest) (sym (e ∙ ap (G.act (top σ)) l)) ∙ by x y)) D
     where

@@ -11,18 +11,17 @@ ghost use Rattle.definitions.specs.Reading.{Stack, top, reduce};
 ghost use Rattle.definitions.specs.Moves.{to, breaks, enter, turn, reading};
 ghost use Rattle.definitions.specs.Edits.{Edit};
 ghost use Rattle.definitions.specs.Answers.{cleared, finished};
-ghost use Rattle.answers.specs.Values.{counts_of};
 ghost use Rattle.machine.specs.Room.{states_end, Holds, put};
 ghost use Rattle.machine.specs.Lookups.{act_is};
 ghost use Rattle.reading.specs.Fresh.{told};
 ghost use Rattle.tree.specs.Shaped as Rows;
 ghost use Rattle.updating.specs.Turns.{Reduces, Facing, Listed, Does, Above};
-ghost use Rattle.updating.specs.Tokens.{Takes, Finishes};
-ghost use Rattle.updating.specs.Running.{Ends, counting};
+ghost use Rattle.updating.specs.Tokens.{Takes};
+ghost use Rattle.updating.specs.Running.{Ends};
 ghost use Rattle.updating.specs.Finish.{Judged, list, done, numbers, Ready};
 
-use answers::{Answer, Counts};
-use machine::{Act, Goto, Landing};
+use answers::{Answer, Counts, Refusal};
+use machine::{Act, Move, ROOM, Stuck};
 use shifting::Whole;
 
 // a piece shifted whole
@@ -30,71 +29,39 @@ mod shifting;
 
 // ---- a turn
 
-// What a turn comes to: a token shifted; a reduction; a piece shifted whole, with the nodes held then and the right-breaks; a left-break, with the
-// words of the list then; accepted; or the refusal.
-#[derive(Clone, Copy)]
+// What a turn comes to, where it does not stop: a move as afresh; a piece shifted whole; or a left-break, with the words of the list then.
+#[derive(Clone, Copy, PartialEq, Eq, Debug)]
 pub enum Turn {
-    Shifted,
-    Reduced,
-    Whole(usize, usize),
+    Plain(Move),
+    Whole(Whole),
     Left(usize),
-    Taken,
-    NoAction,
-    NoRoom,
-    NoGoto,
 }
 
-// The turn of a token next, by its terminal and its identity, where the action on it is no reduction.
-fn take_token(room: &mut [u32], n: usize, act: Act, kind: u32, number: u32) -> Turn
-    requires { (16384 ≤ length room.old) × (n ≤ 2048) }
+// The turn of a token next, by its terminal and its identity, or of the end mark, whose terminal is 0, where the action on it is no reduction.
+fn take_token(
+    room: &mut [u32; ROOM],
+    n: usize,
+    act: Act,
+    kind: u32,
+    number: u32,
+) -> Result<Turn, Stuck>
+    requires { n ≤ 2048 }
     ensures takes { Takes room.old room.new n (act_is act) kind number result }
     ensures room_unchanged { drop states_end room.new ≡ drop states_end room.old }
 {
-    match act {
-        Act::Shift(to) => {
-            if n >= machine::NODES {
-                return Turn::NoRoom;
-            }
-            machine::shift(room, n, to, kind, number);
-            Turn::Shifted
-        }
-        Act::Accept => Turn::Taken,
-        Act::Error => Turn::NoAction,
-        Act::Reduce(_) => Turn::NoAction,
-    }
-}
-
-// The turn of the end mark, where the action on it is no reduction.
-fn take_end(n: usize, act: Act) -> Turn
-    ensures { (room : List ℕ) → Finishes room n (act_is act) result }
-{
-    match act {
-        Act::Shift(_) => {
-            if n >= machine::NODES {
-                return Turn::NoRoom;
-            }
-            Turn::NoGoto
-        }
-        Act::Accept => Turn::Taken,
-        Act::Error => Turn::NoAction,
-        Act::Reduce(_) => Turn::NoAction,
-    }
+    Ok(Turn::Plain(machine::take(room, n, act, kind, number)?))
 }
 
 // A reduction that the next piece's first token calls for, with room judged before it.
-fn reduce(t: &[u8], room: &mut [u32], n: usize, p: usize) -> Turn
-    requires { Layout t.now × (16384 ≤ length room.old) × (n ≤ 2048) × (p < P t.now) × ((σ : Stack) × Holds room.old n σ) }
+fn reduce(t: &[u8], room: &mut [u32; ROOM], n: usize, p: usize) -> Result<(), Stuck>
+    requires { Layout t.now × (n ≤ 2048) × (p < P t.now) × ((σ : Stack) × Holds room.old n σ) }
     ensures reduces { (σ : Stack) → Holds room.old n σ → (f : Row) → Reduces room.new n f (reduce (table_of t.now) (2048 - n) p σ f) result }
     ensures room_unchanged { drop states_end room.new ≡ drop states_end room.old }
 {
     if n >= machine::NODES {
-        return Turn::NoRoom;
+        return Err(Stuck::NoRoom);
     }
-    let l = machine::reduce(t, room, n, p);
-    match l {
-        Landing::On => Turn::Reduced,
-        Landing::Nowhere => Turn::NoGoto,
-    }
+    machine::reduce(t, room, n, p)
 }
 
 // The piece whose root is record v, next in the list of m words: shifted whole where the state s has a goto on it, else left-broken.
@@ -102,14 +69,13 @@ fn enter(
     t: &[u8],
     old: &[u32],
     run: &[u32],
-    room: &mut [u32],
+    room: &mut [u32; ROOM],
     n: usize,
     m: usize,
     v: usize,
     s: usize,
-) -> Turn
+) -> Result<Turn, Stuck>
     requires { Layout t.now
-        × (16384 ≤ length room.old)
         × (n ≤ 2048)
         × Rows.Holds old.now
         × ((put : List ℕ) × (σ : Stack) × (f : Row) × Facing t.now old.now put run.now room.old n m v σ f × (s ≡ top σ)) }
@@ -119,39 +85,37 @@ fn enter(
     ensures above { Above room.old room.new }
 {
     let left = machine::left_of(t, tree::kind_at(old, v) - 256);
-    let g = machine::goto_of(t, s, left);
-    match g {
-        Goto::Nowhere => Turn::Left(list::open(old, room, v, m - 1)),
-        Goto::To(_) => {
-            let w = shifting::shift_whole(t, run, room, n);
-            match w {
-                Whole::Held(held, breaks) => Turn::Whole(held, breaks),
-                Whole::Full => Turn::NoRoom,
-            }
-        }
+    if machine::goto_of(t, s, left).is_none() {
+        return Ok(Turn::Left(list::open(old, room, v, m - 1)));
     }
+    let whole = shifting::shift_whole(t, run, room, n).ok_or(Stuck::NoRoom)?;
+    Ok(Turn::Whole(whole))
 }
 
 // The identity of the token of a run: its number in the old tree, 0 for an inserted one.
 fn identity_of(run: &[u32]) -> u32
     ensures { (length run.now ≡ 3 → result ≡ get_or run.now 1 0) × (length run.now ≡ 1 → result ≡ 0) }
 {
-    if run.len() == 3 { run[1] } else { 0 }
+    match run {
+        [_, number, _] => *number,
+        _ => 0,
+    }
 }
 
 // A turn over n nodes and a list of m words, where the terminal `look` stands next. The action on it is looked up once: a reduction is the
 // same whatever the list has next.
+// The sheet and the two rows stay three parameters: `update_tree`, `read_and_write` and `read_list` keep theirs, and below `read_words` this
+// function alone takes all three.
 fn take_turn<'a>(
     t: &[u8],
     old: &'a [u32],
     put: &'a [u32],
-    room: &mut [u32],
+    room: &mut [u32; ROOM],
     n: usize,
     m: usize,
     look: u32,
-) -> Turn
+) -> Result<Turn, Stuck>
     requires { Layout t.now
-        × (16384 ≤ length room.old)
         × (n ≤ 2048)
         × Rows.Holds old.now
         × ((σ : Stack) × (f : Row) × Holds room.old n σ × Listed t.now old.now put.now room.old m f) }
@@ -163,12 +127,13 @@ fn take_turn<'a>(
     ensures above { Above room.old room.new }
 {
     let s = machine::top(room, n);
-    let act = machine::act_of(t, s, tree::wide(look));
+    let act = machine::act_of(t, s, look as usize);
     if let Act::Reduce(p) = act {
-        return reduce(t, room, n, p as usize);
+        reduce(t, room, n, p as usize)?;
+        return Ok(Turn::Plain(Move::Reduced));
     }
     if m == 0 {
-        return take_end(n, act);
+        return take_token(room, n, act, look, 0);
     }
     let entry = list::entry_at(room, m);
     let run = list::next_run(old, put, entry);
@@ -180,32 +145,15 @@ fn take_turn<'a>(
 
 // ---- the reading of the list
 
-// How a reading ends: accepted, with the nodes held and the five counts; or refused, with the tokens shifted for refusal 7.
-#[derive(Clone, Copy)]
-pub enum End {
-    Taken(usize, Counts),
-    NoAction(usize),
-    NoRoom,
-    NoGoto,
-}
-
-// The five counts.
-fn counts(lefts: usize, rights: usize, wholes: usize, shifts: usize, reductions: usize) -> Counts
-    requires { (lefts < 4294967296) × (rights < 4294967296) × (wholes < 4294967296) × (shifts < 4294967296) × (reductions < 4294967296) }
-    ensures { counts_of result ≡ counting lefts rights wholes shifts reductions }
-{
-    Counts {
-        lefts: lefts as u32,
-        rights: rights as u32,
-        wholes: wholes as u32,
-        shifts: shifts as u32,
-        reductions: reductions as u32,
-    }
-}
-
-// The reading of a list of m words, from the empty stack to its end.
-pub fn read_list<'a>(t: &[u8], old: &'a [u32], put: &'a [u32], room: &mut [u32], m: usize) -> End
-    requires { Layout t.now × (16384 ≤ length room.old) × Rows.Holds old.now × ((f : Row) × Listed t.now old.now put.now room.old m f) }
+// The reading of a list of m words in the first words of a room, from the empty stack to its end.
+fn read_words<'a>(
+    t: &[u8],
+    old: &'a [u32],
+    put: &'a [u32],
+    room: &mut [u32; ROOM],
+    m: usize,
+) -> Result<(usize, Counts), Refusal>
+    requires { Layout t.now × Rows.Holds old.now × ((f : Row) × Listed t.now old.now put.now room.old m f) }
     ensures ends { (f : Row)
         → Listed t.now old.now put.now room.old m f
         → Ends room.new (reading (table_of t.now) 2048 f) result }
@@ -216,73 +164,81 @@ pub fn read_list<'a>(t: &[u8], old: &'a [u32], put: &'a [u32], room: &mut [u32],
     let mut n: usize = 0;
     let mut words = m;
     let mut next = list::peek(old, put, room, m);
-    let mut lefts: usize = 0;
-    let mut rights: usize = 0;
-    let mut wholes: usize = 0;
-    let mut shifts: usize = 0;
-    let mut reductions: usize = 0;
+    let mut counts = Counts::default();
     loop {
-        let o = take_turn(t, old, put, room, n, words, next);
-        match o {
-            Turn::Shifted => {
+        match take_turn(t, old, put, room, n, words, next) {
+            Ok(Turn::Plain(Move::Shifted)) => {
                 n += 1;
                 words -= 1;
-                shifts += 1;
+                counts.shifts += 1;
                 next = list::peek(old, put, room, words);
             }
-            Turn::Reduced => {
+            Ok(Turn::Plain(Move::Reduced)) => {
                 n += 1;
-                reductions += 1;
+                counts.reductions += 1;
             }
-            Turn::Whole(held, breaks) => {
-                n = held;
+            Ok(Turn::Whole(whole)) => {
+                n = whole.held;
                 words -= 1;
-                wholes += 1;
-                rights += breaks;
+                counts.wholes += 1;
+                counts.rights += whole.breaks;
                 next = list::peek(old, put, room, words);
             }
-            Turn::Left(left) => {
+            Ok(Turn::Left(left)) => {
                 words = left;
-                lefts += 1;
+                counts.lefts += 1;
             }
-            Turn::Taken => {
-                return End::Taken(n, counts(lefts, rights, wholes, shifts, reductions));
+            Ok(Turn::Plain(Move::Taken)) => {
+                return Ok((n, counts));
             }
-            Turn::NoAction => {
-                return End::NoAction(total - list::tokens_left(old, room, words));
-            }
-            Turn::NoRoom => {
-                return End::NoRoom;
-            }
-            Turn::NoGoto => {
-                return End::NoGoto;
+            Err(stuck) => {
+                let shifted = total - list::tokens_left(old, room, words);
+                return Err(reading::refusal(stuck, shifted as u32));
             }
         }
     }
 }
 
+// The reading of a list of m words, from the empty stack to its end: the nodes held and the five counts, or the refusal.
+pub fn read_list<'a>(
+    t: &[u8],
+    old: &'a [u32],
+    put: &'a [u32],
+    room: &mut [u32],
+    m: usize,
+) -> Result<(usize, Counts), Refusal>
+    requires { Layout t.now × (16384 ≤ length room.old) × Rows.Holds old.now × ((f : Row) × Listed t.now old.now put.now room.old m f) }
+    ensures ends { (f : Row)
+        → Listed t.now old.now put.now room.old m f
+        → Ends room.new (reading (table_of t.now) 2048 f) result }
+    ensures above { Above room.old room.new }
+{
+    let first = room.first_chunk_mut::<ROOM>().unwrap();
+    read_words(t, old, put, first, m)
+}
+
 // ---- the update
 
-// The answer by the reading's end; the tree with its numbers where it is accepted and they suffice.
-fn finish(e: End, old: &[u32], tree: &mut [u32], room: &mut [u32]) -> Answer
-    requires { (6146 ≤ length tree.old)
-        × (16384 ≤ length room.old)
-        × ((t edits put : List ℕ) × (r : NRow) × (es : List Edit) × (J : Judged t old.now edits put r es) × Ends room.old (done J) e) }
-    ensures lent_after { (t edits put lent : List ℕ) (r : NRow) (es : List Edit) (J : Judged t old.now edits put r es)
-        → Ends room.old (done J) e
+// The list read, and the tree written with its numbers where it is accepted and they suffice.
+fn read_and_write<'a>(
+    t: &[u8],
+    old: &'a [u32],
+    put: &'a [u32],
+    tree: &mut [u32],
+    room: &mut [u32; ROOM],
+    m: usize,
+) -> Answer
+    requires { (6146 ≤ length tree.old) × Ready t.now old.now put.now room.old m }
+    ensures lent_after { (edits lent : List ℕ) (r : NRow) (es : List Edit) (J : Judged t.now old.now edits put.now r es)
+        → Listed t.now old.now put.now room.old m (list J)
         → told result tree.new (cleared lent) ≡ finished tree.old lent (numbers J) (done J) }
-    ensures room_unchanged { drop states_end room.new ≡ drop states_end room.old }
+    ensures above { Above room.old room.new }
 {
-    match e {
-        End::Taken(n, k) => {
-            if numbers::finish(old, tree, room, n) {
-                return Answer::Accepted(k);
-            }
-            Answer::NoNumber
-        }
-        End::NoAction(i) => Answer::NoAction(i as u32),
-        End::NoRoom => Answer::NoRoom,
-        End::NoGoto => Answer::NoGoto,
+    let (n, counts) = read_list(t, old, put, room, m)?;
+    if numbers::finish(old, tree, room, n) {
+        Ok(counts)
+    } else {
+        Err(Refusal::NoNumber)
     }
 }
 
@@ -301,8 +257,8 @@ pub fn update_tree<'a>(
         → Listed t.now old.now put.now room.old m (list J)
         → told result tree.new room.new ≡ finished tree.old room.old (numbers J) (done J) }
 {
-    let e = read_list(t, old, put, room, m);
-    let a = finish(e, old, tree, room);
+    let first = room.first_chunk_mut::<ROOM>().unwrap();
+    let answer = read_and_write(t, old, put, tree, first, m);
     machine::wipe(room);
-    a
+    answer
 }

@@ -1,37 +1,19 @@
--- `updating::take_token` meets its contract: one law for each way out. Assumes nothing.
-use mathlib.Core.Path.{refl, ap}
-use Rattle.machine.specs.Lookups.{act_is}
-use Rattle.updating.specs.Tokens.{none, accepted, full, shifted}
+-- `updating::take_token` meets its contract: what the machine did. Assumes nothing.
+use mathlib.Core.Path.{◌≡◌}
+use Rattle.std.specs.Prelude.{Err}
+use Rattle.updating.specs.Tokens.{moved, stopped}
+use borrow.Author.Rules.{rules}
 use Rattle.updating.proofs.take_token.Goals as goal
 
-pub returns-then-n-ge-NODES : goal.returns-then-n-ge-NODES
-returns-then-n-ge-NODES c = record {
-  takes = λ t old put m σ f h N. full N (ap act_is c.in-Shift.is) c.if-n-ge-NODES.true;
-  room_unchanged = refl;
-}
+pub returns-in_err-take-clause-takes : goal.returns-in_err-take-clause-takes
+returns-in_err-take-clause-takes c t old put m σ f N =
+    let a = c.args in
+    let w = c.in_err-take.ensures in
+    let e : c.from_residual.result ≡ Err c.in_err-take.field-0.0 = search rules in
+    rw e (stopped N.listed _ w.room_unchanged a.n a.kind a.number σ _ _ (w.takes t σ f N.holds N.stands N.seen N.other))
 
-pub returns-else-n-ge-NODES : goal.returns-else-n-ge-NODES
-returns-else-n-ge-NODES c =
-    let e = c.shift.ensures in
-    record {
-      takes = λ t old put m σ f h N. shifted N (ap act_is c.in-Shift.is) c.if-n-ge-NODES.false h e.room_unchanged (e.holds σ N.holds);
-      room_unchanged = e.room_unchanged;
-    }
-
-pub returns-in-Accept : goal.returns-in-Accept
-returns-in-Accept c = record {
-  takes = λ t old put m σ f h N. accepted N (ap act_is c.in-Accept.is);
-  room_unchanged = refl;
-}
-
-pub returns-in-Error : goal.returns-in-Error
-returns-in-Error c = record {
-  takes = λ t old put m σ f h N. none N (ap act_is c.in-Error.is);
-  room_unchanged = refl;
-}
-
-pub returns-in-Reduce : goal.returns-in-Reduce
-returns-in-Reduce c = record {
-  takes = λ t old put m σ f h N. absurd (N.other _ (ap act_is c.in-Reduce.is));
-  room_unchanged = refl;
-}
+pub returns-clause-takes : goal.returns-clause-takes
+returns-clause-takes c t old put m σ f N =
+    let a = c.args in
+    let w = c.in_ok-take.ensures in
+    moved N.listed _ w.room_unchanged a.n a.kind a.number σ _ c.in_ok-take.field-0 (w.takes t σ f N.holds N.stands N.seen N.other)

@@ -1,29 +1,23 @@
--- `updating::update_tree` meets its contract: the list is read, its end told, and the room wiped. Assumes nothing.
-use mathlib.Core.Path.{ap, ◌∙◌}
-use native.Mathlib.Omega.{arith}
+-- `updating::update_tree` meets its contract: the room's first words are read in, and wiped behind the reading. Assumes nothing.
+use mathlib.Core.Path.{◌≡◌, ap, ◌∙◌}
+use lib.ListN.{take}
+use Rattle.std.proofs.lemmas.Option.{MatchOption-at_some}
 use Rattle.reading.specs.Fresh.{told}
-use Rattle.updating.specs.Turns.{above_states}
-use Rattle.updating.specs.Finish.{held-row, list, cleared_above}
+use Rattle.list.specs.Lent.{first_long, rest_back}
+use Rattle.updating.specs.Finish.{held-row, listed_first, ready_first, cleared_above}
 use Rattle.updating.proofs.update_tree.Goals as goal
+use Rattle.updating.proofs.update_tree.Goals.{After-unwrap-first}
 
-pub read_list-e-requires : goal.read_list-e-requires
-read_list-e-requires c =
-    let p = c.requires in
-    let J = p.2.3 in
-    (J.table.layout, p.1, held-row J, (list J, p.2.4))
+-- the words that are lent on
+first : (c : After-unwrap-first) → c.unwrap-first.result.now ≡ take 16384 c.args.room.now
+first c = (MatchOption-at_some _ _ _ c.unwrap-first.ensures c.first_chunk_mut.ensures.cases).same
 
-pub finish-a-requires : goal.finish-a-requires
-finish-a-requires c =
-    let p = c.requires in
-    let a = c.args in
-    let x = p.2 in
-    let k = c.read_list-e.ensures in
-    (p.0, omega (arith, p.1, k.above.long), (a.t.now, x.0, a.put.now, x.1, x.2, x.3, k.ends (list x.3) x.4))
+pub read_and_write-answer-requires : goal.read_and_write-answer-requires
+read_and_write-answer-requires c = (c.requires.0, ready_first (first (goal.at.read_and_write-answer-requires c).After-unwrap-first) c.requires.2)
 
 pub returns : goal.returns
 returns c edits r es J L =
-    let a = c.args in
-    let f = c.finish-a in
-    let l = c.read_list-e in
-    ap (told f.result f.new.tree) (c.wipe.ensures ∙ cleared_above f.new.room a.room.now ((above_states {r = l.new.room} {r' = f.new.room} f.ensures.room_unchanged f.auto.room).rest ∙ l.ensures.above.rest))
-    ∙ f.ensures.lent_after a.t.now edits a.put.now a.room.now r es J (l.ensures.ends (list J) L)
+    let a = c.read_and_write-answer in
+    let e = first (goal.at.returns c).After-unwrap-first in
+    let l = a.ensures.above.long ∙ first_long c.args.room.now e c.requires.1 in
+    ap (told a.result a.new.tree) (c.wipe.ensures ∙ cleared_above _ c.args.room.now (rest_back _ c.args.room.now l)) ∙ a.ensures.lent_after edits c.args.room.now r es J (listed_first e (held-row J) L)
