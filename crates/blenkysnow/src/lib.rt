@@ -1,29 +1,27 @@
 // The public calls over lent rows. Nothing is asked of what is lent: each call judges it, in document 01's order of refusals.
 #![tactic(auto)]
 
-ghost use Rattle.std.specs.Prelude.{◌≡◌, ◌≤◌, ◌<◌, length, drop};
+ghost use Rattle.std.specs.Prelude.{◌≡◌, Err, ◌≤◌, length, drop};
 ghost use Rattle.definitions.specs.Sheet.{T, Layout};
 ghost use Rattle.definitions.specs.States.{Accepted};
 ghost use Rattle.definitions.specs.Edits.{Codes};
-ghost use Rattle.definitions.specs.Answers as Answers;
 ghost use Rattle.definitions.specs.Answers.{cleared, TextInOrder};
 ghost use Rattle.theory.specs.Check.Says.{Says};
 ghost use Rattle.theory.specs.Edits.EditsD.{text_in};
 ghost use Rattle.theory.specs.Answers.{check, read_text, afresh, update};
 ghost use Rattle.theory.specs.Demands.Calls.{Checks, Afreshed, UpdatedAll};
 ghost use Rattle.table.specs.Answer.{number, Named};
-ghost use Rattle.answers.specs.Values.{value_of};
 ghost use Rattle.reading.specs.Fresh.{told};
 ghost use Rattle.edit_lists.specs.Words.{words_of};
 ghost use Rattle.blenkysnow.specs.Stages.{Long, OldTokens, Begun, Handed, Ended};
 
-use answers::Answer;
-use table::Check;
+use answers::{Answer, Refusal};
+use table::Broken;
 
 // ---- the table
 
 // Is the table taken, and if not, which refusal is it: 2, 3 or 4?
-pub fn check_table(table: &[u8]) -> Check
+pub fn check_table(table: &[u8]) -> Result<(), Broken>
     ensures result_value { number result ≡ check table.now }
     ensures checks { Checks table.now (number result) }
     ensures named { Named table.now result }
@@ -37,19 +35,16 @@ pub fn check_table(table: &[u8]) -> Check
 fn enough(tree: usize, room: usize) -> bool
     ensures { Says result (Long tree room) }
 {
-    if tree < 6146 {
-        return false;
-    }
-    room >= 16384
+    tree >= 6146 && room >= 16384
 }
 
 // A refusal, the room cleared.
-fn refuse(room: &mut [u32], a: Answer) -> Answer
+fn refuse(room: &mut [u32], e: Refusal) -> Answer
     requires { 16384 ≤ length room.old }
-    ensures { (result ≡ a) × (room.new ≡ cleared room.old) }
+    ensures { (result ≡ Err e) × (room.new ≡ cleared room.old) }
 {
     machine::wipe(room);
-    a
+    Err(e)
 }
 
 // ---- the text
@@ -59,14 +54,7 @@ pub fn text_right(t: &[u8], codes: &[u32], first: u32) -> bool
     requires { Layout t.now }
     ensures { Says result (TextInOrder t.now codes.now first) }
 {
-    if first == 0 {
-        return false;
-    }
-    let n = codes.len();
-    if n > 2048 {
-        return false;
-    }
-    edits::codes_known(t, codes, n)
+    first != 0 && codes.len() <= 2048 && edits::codes_known(t, codes)
 }
 
 // ---- reading afresh
@@ -78,8 +66,7 @@ fn read_taken(t: &[u8], codes: &[u32], first: u32, tree: &mut [u32], room: &mut 
         ≡ read_text t.now codes.now first tree.old room.old (text_in t.now codes.now first) }
 {
     if !text_right(t, codes, first) {
-        machine::wipe(room);
-        return Answer::Text;
+        return refuse(room, Refusal::Text);
     }
     reading::read_text(t, codes, first, tree, room)
 }
@@ -97,87 +84,57 @@ pub fn read_afresh(
     ensures afreshed { Afreshed table.now codes.now first tree.old room.old (told result tree.new room.new) }
 {
     if !enough(tree.len(), room.len()) {
-        return Answer::Small;
+        return Err(Refusal::Small);
     }
-    let found = table::check_table(table);
-    match found {
-        Check::Layout => refuse(room, Answer::Layout),
-        Check::Grammar => refuse(room, Answer::Grammar),
-        Check::States(_, _) => refuse(room, Answer::States),
-        Check::Yes => read_taken(table, codes, first, tree, room),
+    match table::check_table(table) {
+        Ok(()) => read_taken(table, codes, first, tree, room),
+        Err(broken) => refuse(room, broken.into()),
     }
 }
 
 // ---- updating
 
-// How many tokens the old tree has, if it is in order, or else 2,048 and the number of the refusal: 5.
-fn old_tokens(t: &[u8], old: &[u32], room: &mut [u32]) -> usize
+// How many tokens the old tree has, if it is in order; else refusal 5.
+fn old_tokens(t: &[u8], old: &[u32], room: &mut [u32]) -> Result<usize, Refusal>
     requires { Accepted t.now × (16384 ≤ length room.old) }
     ensures old_tokens { OldTokens t.now old.now room.old room.new result }
     ensures room_unchanged { drop 16384 room.new ≡ drop 16384 room.old }
 {
     if !tree::in_order(t, old, room) {
-        return 2053;
+        return Err(Refusal::OldTree);
     }
-    tree::tokens_in(old, tree::count_at(old))
+    Ok(tree::tokens_in(old, tree::count_at(old)))
 }
 
-// Judges what is lent up to the old tree, `wide` the words of the tree to write: how many tokens the old tree has, or 2,048 and the number of
-// the refusal, 1 to 5.
-fn begin(table: &[u8], old: &[u32], wide: usize, room: &mut [u32]) -> usize
+// Judges what is lent up to the old tree, `wide` the words of the tree to write: how many tokens the old tree has, or the refusal, 1 to 5.
+fn begin(table: &[u8], old: &[u32], wide: usize, room: &mut [u32]) -> Result<usize, Refusal>
     ensures { Begun table.now old.now wide room.old room.new result }
 {
     if !enough(wide, room.len()) {
-        return 2049;
+        return Err(Refusal::Small);
     }
-    let found = table::check_table(table);
-    match found {
-        Check::Layout => 2050,
-        Check::Grammar => 2051,
-        Check::States(_, _) => 2052,
-        Check::Yes => old_tokens(table, old, room),
-    }
+    table::check_table(table)?;
+    old_tokens(table, old, room)
 }
 
-// The refusal of number k, 2 to 6, with place 0.
-fn refusal(k: usize) -> Answer
-    requires { (1 < k) × (k ≤ 6) }
-    ensures { value_of result ≡ Answers.refusal k 0 }
-{
-    if k < 3 {
-        return Answer::Layout;
-    }
-    if k < 4 {
-        return Answer::Grammar;
-    }
-    if k < 5 {
-        return Answer::States;
-    }
-    if k < 6 {
-        return Answer::OldTree;
-    }
-    Answer::Text
-}
-
-// The end of an update by what was found of all that is lent: the refusal, or the reading of the list of m words.
+// The end of an update by what was found of all that is lent: the refusal, or the reading of the list of so many words. A room that is too
+// small stays as lent.
 fn finish<'a>(
     t: &[u8],
     old: &'a [u32],
     put: &'a [u32],
     tree: &mut [u32],
     room: &mut [u32],
-    m: usize,
+    listed: Result<usize, Refusal>,
 ) -> Answer
-    requires { Handed t.now old.now put.now tree.old room.old m }
-    ensures { Ended t.now old.now put.now tree.old room.old m (told result tree.new room.new) }
+    requires { Handed t.now old.now put.now tree.old room.old listed }
+    ensures { Ended t.now old.now put.now tree.old room.old listed (told result tree.new room.new) }
 {
-    if m == 2049 {
-        return Answer::Small;
+    match listed {
+        Ok(m) => updating::update_tree(t, old, put, tree, room, m),
+        Err(Refusal::Small) => Err(Refusal::Small),
+        Err(e) => refuse(room, e),
     }
-    if m > 2048 {
-        return refuse(room, refusal(m - 2048));
-    }
-    updating::update_tree(t, old, put, tree, room, m)
 }
 
 // A tree updated after edits, a row of three words an edit: the answer, with the counts or the refusal's place; the tree written if it is
@@ -199,7 +156,8 @@ pub fn update<'a>(
     finish(table, old, put, tree, room, m)
 }
 
-// The same with the edits as a lent slice of structs, a list of any length.
+// The same with the edits as a lent slice of structs, a list of any length. Each of the two is three calls, of which the middle one differs:
+// one function for both would take that as a closure with clauses of its own.
 pub fn update_edits<'a>(
     table: &[u8],
     old: &'a [u32],

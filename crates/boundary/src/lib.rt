@@ -10,7 +10,7 @@ ghost use Rattle.edit_lists.specs.Words.{words_of};
 ghost use Rattle.boundary.specs.Said.{Says, Tells, Checked};
 
 use answers::Answer;
-use table::Check;
+use table::Broken;
 
 // ---- the table
 
@@ -29,13 +29,12 @@ pub extern "C" fn blenkysnow_check(table: &[u8], broken: &mut [u32; 2]) -> u32
     ensures { Checked table.now result broken.new }
 {
     *broken = [0, 0];
-    let found = blenkysnow::check_table(table);
-    match found {
-        Check::Yes => 0,
-        Check::Layout => 2,
-        Check::Grammar => 3,
-        Check::States(c, s) => {
-            *broken = [c as u32, s as u32];
+    match blenkysnow::check_table(table) {
+        Ok(()) => 0,
+        Err(Broken::Layout) => 2,
+        Err(Broken::Grammar) => 3,
+        Err(Broken::States(c, s)) => {
+            *broken = [u32::from(c.number()), s as u32];
             4
         }
     }

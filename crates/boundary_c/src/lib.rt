@@ -1,4 +1,5 @@
 // What C and Rust link: the functions of crate boundary under their own names, with the same clauses. include/blenkysnow.h declares them.
+// A crate is linked by C or used by crates, so that each of the five functions stands in both.
 #![tactic(auto)]
 
 ghost use Rattle.std.specs.Prelude.{◌≡◌};

@@ -1,12 +1,9 @@
 -- `blenkysnow::begin` meets its contract: by the lengths, by the table check's answer, then by the old tree. Assumes nothing.
-use mathlib.Core.Path.{refl, ap, subst}
-use native.Mathlib.Omega.{arith}
-use lib.ListN.{length}
-use Rattle.theory.specs.Check.Says.{refused}
-use Rattle.theory.specs.Demands.Calls.{Checks}
-use Rattle.table.specs.Answer.{number}
+use Rattle.std.proofs.Common.{rules, ◌≡◌, refl, Err, length}
+use Rattle.table.specs.Answer.{refusal_number}
+use Rattle.table.specs.Refusals.{refusal as refused_as}
 use Rattle.blenkysnow.specs.Afresh.{taken}
-use Rattle.blenkysnow.specs.Stages.{Long, one, by_table, by-tree}
+use Rattle.blenkysnow.specs.Stages.{Long, by_table, by-tree, table_refused, table_many}
 use Rattle.blenkysnow.proofs.begin.Goals as goal
 use Rattle.blenkysnow.proofs.begin.Goals.{Else-not-enough}
 
@@ -14,23 +11,16 @@ use Rattle.blenkysnow.proofs.begin.Goals.{Else-not-enough}
 lent : (c : Else-not-enough) → let a = c.args in Long a.wide (length a.room.now)
 lent c = c.enough.ensures.to c.if-not-enough.false
 
-pub returns-then-not-enough : goal.returns-then-not-enough
-returns-then-not-enough c = one (refused c.enough.ensures c.if-not-enough.true) refl refl
+pub returns-in_err-check_table : goal.returns-in_err-check_table
+returns-in_err-check_table c =
+    let b = c.in_err-check_table.field-0.0 in
+    let e : c.from_residual.result ≡ Err (refused_as b) = search rules in
+    by_table (lent (goal.at.returns-in_err-check_table c).Else-not-enough) (refused_as b) (refusal_number b) (table_many b) c.in_err-check_table.ensures.checks (table_refused b) e refl
 
 pub old_tokens-requires : goal.old_tokens-requires
-old_tokens-requires c =
-    (taken (ap number c.in-Yes.is) c.check_table-found.ensures.checks, (lent (goal.at.old_tokens-requires c).Else-not-enough).1)
+old_tokens-requires c = (taken refl c.in_ok-check_table.ensures.checks, (lent (goal.at.old_tokens-requires c).Else-not-enough).1)
 
-pub returns-in-Layout : goal.returns-in-Layout
-returns-in-Layout c = by_table (lent (goal.at.returns-in-Layout c).Else-not-enough) 2 (omega arith) (subst (λ x. Checks c.args.table.now (number x)) c.in-Layout.is c.check_table-found.ensures.checks) refl refl
-
-pub returns-in-Grammar : goal.returns-in-Grammar
-returns-in-Grammar c = by_table (lent (goal.at.returns-in-Grammar c).Else-not-enough) 3 (omega arith) (subst (λ x. Checks c.args.table.now (number x)) c.in-Grammar.is c.check_table-found.ensures.checks) refl refl
-
-pub returns-in-States : goal.returns-in-States
-returns-in-States c = by_table (lent (goal.at.returns-in-States c).Else-not-enough) 4 (omega arith) (subst (λ x. Checks c.args.table.now (number x)) c.in-States.is c.check_table-found.ensures.checks) refl refl
-
-pub returns-in-Yes : goal.returns-in-Yes
-returns-in-Yes c =
+pub returns : goal.returns
+returns c =
     let o = c.old_tokens.ensures in
-    by-tree (lent (goal.at.returns-in-Yes c).Else-not-enough) (taken (ap number c.in-Yes.is) c.check_table-found.ensures.checks) o.old_tokens o.room_unchanged
+    by-tree (lent (goal.at.returns c).Else-not-enough) (taken refl c.in_ok-check_table.ensures.checks) o.old_tokens o.room_unchanged

@@ -1,10 +1,7 @@
 -- `blenkysnow::update` meets its contract: its three stages tell the call. Assumes nothing.
 use Rattle.blenkysnow.specs.Update.{tells'}
-use Rattle.blenkysnow.specs.Stages.{may_list, may_end, told_all}
+use Rattle.blenkysnow.specs.Stages.{may_end, told_all}
 use Rattle.blenkysnow.proofs.update.Goals as goal
-
-pub list_words-m-requires : goal.list_words-m-requires
-list_words-m-requires c = may_list c.begin-n.ensures
 
 pub finish-requires : goal.finish-requires
 finish-requires c =

@@ -1,11 +1,8 @@
 -- `blenkysnow::update_edits` meets its contract: its three stages tell the call. Assumes nothing.
 use Rattle.blenkysnow.specs.Update.{tells'}
-use Rattle.blenkysnow.specs.Stages.{may_list, may_end, told_all}
+use Rattle.blenkysnow.specs.Stages.{may_end, told_all}
 use Rattle.edit_lists.specs.Words.{words_of}
 use Rattle.blenkysnow.proofs.update_edits.Goals as goal
-
-pub list_edits-m-requires : goal.list_edits-m-requires
-list_edits-m-requires c = may_list c.begin-n.ensures
 
 pub finish-requires : goal.finish-requires
 finish-requires c =
