@@ -13,12 +13,12 @@ ghost use Rattle.lines.specs.Put.{Put};
 
 // ---- the input
 
-// Two bytes, high first.
+// Two bytes, high first: as `sheet::word` has them of a sheet, which the input is not.
 fn two(input: &[u8], at: usize) -> usize
     requires { at + 2 ≤ length input.now }
     ensures { (result ≡ twoAt input.now at) × (result < 65536) }
 {
-    sheet::wide(input[at]) * 256 + sheet::wide(input[at + 1])
+    usize::from(u16::from_be_bytes([input[at], input[at + 1]]))
 }
 
 // Four bytes, high first.
@@ -26,8 +26,7 @@ fn four(input: &[u8], at: usize) -> u32
     requires { at + 4 ≤ length input.now }
     ensures { result ≡ twoAt input.now at * 65536 + twoAt input.now (at + 2) }
 {
-    let n = two(input, at) * 65536 + two(input, at + 2);
-    n as u32
+    u32::from_be_bytes([input[at], input[at + 1], input[at + 2], input[at + 3]])
 }
 
 // Has the input as many bytes as its lengths call for?
@@ -39,17 +38,7 @@ fn whole(input: &[u8]) -> bool
         return false;
     }
     let t = two(input, 0);
-    if n < 8 + t {
-        return false;
-    }
-    n == 8 + t + two(input, 2 + t)
-}
-
-// A byte as a word.
-fn word(b: u8) -> u32
-    ensures { result ≡ b }
-{
-    b as u32
+    n >= 8 + t && n == 8 + t + two(input, 2 + t)
 }
 
 // The bytes of a row as words, at the start of another.
@@ -57,14 +46,13 @@ fn spread(bytes: &[u8], codes: &mut [u32])
     requires { length bytes.now ≤ length codes.old }
     ensures { take (length bytes.now) codes.new ≡ bytes.now }
 {
-    let mut i: usize = 0;
-    while i < bytes.len() {
-        codes[i] = word(bytes[i]);
-        i += 1;
+    for (i, b) in bytes.iter().enumerate() {
+        codes[i] = u32::from(*b);
     }
 }
 
-// ---- the output
+// ---- the output. The row and the place stay two parameters: in a struct that holds the row by `&mut` each put would have to say besides
+// that it holds the same row still, and how long that is.
 
 // One byte.
 fn put_byte(out: &mut [u8], at: usize, b: u8) -> usize
@@ -80,12 +68,9 @@ fn put_text(out: &mut [u8], at: usize, text: &[u8]) -> usize
     requires { at + length text.now ≤ length out.old }
     ensures { Put out.old at text.now out.new result }
 {
-    let mut i: usize = 0;
-    while i < text.len() {
-        out[at + i] = text[i];
-        i += 1;
-    }
-    at + text.len()
+    let next = at + text.len();
+    out[at..next].copy_from_slice(text);
+    next
 }
 
 // A number in decimal.
@@ -94,7 +79,7 @@ fn put_number(out: &mut [u8], at: usize, n: u32) -> usize
     ensures { Put out.old at (decimal n) out.new result }
 {
     let mut text = [0u8; 20];
-    let k = io::decimal(n as u64, &mut text);
+    let k = io::decimal(u64::from(n), &mut text);
     put_text(out, at, &text[..k])
 }
 
@@ -123,10 +108,8 @@ fn put_nodes(out: &mut [u8], at: usize, tree: &[u32], n: usize) -> usize
     ensures { Put out.old at (node_lines tree.now n) out.new result }
 {
     let mut next = at;
-    let mut i: usize = 0;
-    while i < n {
+    for i in 0..n {
         next = put_node(out, next, tree[2 + 3 * i], tree[3 + 3 * i], tree[4 + 3 * i]);
-        i += 1;
     }
     next
 }
@@ -153,7 +136,7 @@ fn put_tree(out: &mut [u8], tree: &[u32]) -> usize
     let word = put_word(out, b'o', b'k');
     let count = put_part(out, word, n, b' ');
     let line = put_part(out, count, tree[1], b'\n');
-    put_nodes(out, line, tree, tree::wide(n))
+    put_nodes(out, line, tree, n as usize)
 }
 
 // A refusal's line.
@@ -188,12 +171,10 @@ fn read_whole(
     let first = four(input, to);
     spread(&input[from..to], codes);
     let behind = 2 + t;
-    let a = blenkysnow::read_afresh(&input[2..behind], &codes[..c], first, tree, room);
-    let number = answers::number(a);
-    if number == 0 {
-        return put_tree(out, tree);
+    match blenkysnow::read_afresh(&input[2..behind], &codes[..c], first, tree, room) {
+        Ok(_) => put_tree(out, tree),
+        Err(refusal) => put_refusal(out, refusal.number(), refusal.place()),
     }
-    put_refusal(out, number, answers::place(a))
 }
 
 // What the small program prints for an input, at the start of `out`, and how many bytes it is. The other rows are to work in.

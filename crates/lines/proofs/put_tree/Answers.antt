@@ -11,7 +11,6 @@ put_part-line-requires c =
 
 pub put_nodes-requires : goal.put_nodes-requires
 put_nodes-requires c =
-    let w = c.wide.ensures.0 in
     let a = c.put_word-word.ensures.ends in
     let b = c.put_part-count.ensures.ends in
     let d = c.put_part-line.ensures.ends in
