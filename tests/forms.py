@@ -12,11 +12,11 @@ tally = Tally()
 
 
 def stands(name):
-    """Whether a name such as `grammar::first::firsts` is declared: the crate's folder, and of a longer name the file between."""
+    """Whether a name such as `grammar::first::firsts` is declared: the crate's folder, and the file between; a method may stand in any file."""
     crate, *inner, last = name.split("::")
-    files = glob.glob(os.path.join(here, "crates", crate, "src", (inner[0] if inner else "*") + ".rt"))
+    files = glob.glob(os.path.join(here, "crates", crate, "src", (inner[0] if len(inner) == 1 else "*") + ".rt"))
     code = "".join(open(file, encoding="utf-8").read() for file in files)
-    return bool(re.search(rf"\b(?:fn|const|struct|enum) {last}\b", code))
+    return bool(re.search(rf"\b(?:fn|const|struct|enum|trait|type) {last}\b", code))
 
 
 names = sorted(set(re.findall(r"`([a-z_]+(?:::\w+)+)`", paper)) - {"rows::update"})

@@ -59,10 +59,13 @@ class Library:
     def call(self, case, begins):
         """The instructions of one call: all, those of the table check, those of the making of the list."""
         found = counted(self.valgrind, self.program, case, begins)[1]
-        name = "blenkysnow::read_afresh" if case.startswith(b"R") else "blenkysnow::update"
+        # the closure that the judge makes of the call, which has the call in it
+        method = "read" if case.startswith(b"R") else "update"
+        name = f"judge::fn::Rows::{method}::call_and_tell+FnMut::call_mut"
         if name not in found or "table::check_table" not in found:
             raise SystemExit(f"the compiler has not kept {name} and the table check apart")
-        return found[name], found["table::check_table"], found.get("edits::make_list")
+        made = next((found[name] for name in found if name.startswith("edits::make_list")), None)
+        return found[name], found["table::check_table"], made
 
     def update(self, row):
         """The parts of an update. It is refused for a tree of no nodes (5), for half an edit (6), for a last code that is no terminal (6), for
