@@ -24,8 +24,10 @@ pub struct Edited<'a> {
     pub codes: &'a [u32],
 }
 
-// One number.
-pub fn read_number() -> Result<u32, Malformed> {
+// One number, of four bytes.
+pub fn read_number() -> Result<u32, Malformed>
+    ensures { IfOk result (λ n. n ≤ 4294967295) }
+{
     let mut bytes = [0u8; 4];
     if io::read_full(0, &mut bytes) < 4 {
         return Err(Malformed);
@@ -72,7 +74,9 @@ pub fn read_count(most: usize) -> Result<usize, Malformed>
 }
 
 // A count and as many bytes.
-pub fn read_bytes(row: &mut [u8]) -> Result<&[u8], Malformed> {
+pub fn read_bytes(row: &mut [u8]) -> Result<&[u8], Malformed>
+    ensures { IfOk result (λ part. length part.now ≤ length row.old) }
+{
     let n = read_count(row.len())?;
     if io::read_full(0, &mut row[..n]) < n {
         return Err(Malformed);
@@ -104,7 +108,9 @@ fn read_row(row: &mut [u32]) -> Result<(), Malformed> {
 }
 
 // A count and as many words.
-pub fn read_words(row: &mut [u32]) -> Result<&[u32], Malformed> {
+pub fn read_words(row: &mut [u32]) -> Result<&[u32], Malformed>
+    ensures { IfOk result (λ part. length part.now ≤ length row.old) }
+{
     let n = read_count(row.len())?;
     read_row(&mut row[..n])?;
     Ok(&row[..n])
@@ -116,7 +122,12 @@ pub fn read_edited<'a>(
     old: &'a mut [u32],
     edits: &'a mut [u32],
     codes: &'a mut [u32],
-) -> Result<Edited<'a>, Malformed> {
+) -> Result<Edited<'a>, Malformed>
+    ensures { IfOk result (λ e. (length e.table.now ≤ length table.old)
+        × (length e.old.now ≤ length old.old)
+        × (length e.edits.now ≤ length edits.old)
+        × (length e.codes.now ≤ length codes.old)) }
+{
     Ok(Edited {
         table: read_bytes(table)?,
         old: read_words(old)?,
