@@ -1,5 +1,5 @@
-// The edits of an update as a lent slice of structs: the same calls as of crate edits over a row of words. Both are calls of the generic
-// functions of crate edits, each with its own way to lend an edit.
+// The edits of an update as a lent slice of structs: the same calls as of crate edits over a row of words. The judgement and the list are
+// calls of the generic functions of crate edits, each with its own way to lend an edit; `list_edits` is the one behind the other.
 #![tactic(auto)]
 
 ghost use Rattle.std.specs.Prelude.{◌≡◌, List, ℕ, ◌≤◌, length, drop, IfOk};
@@ -58,5 +58,9 @@ pub fn list_edits(
     requires { IfOk found (λ n. Tokens t.now old.now room.old n) }
     ensures { Lists t.now old.now (words_of edits.now) put.now room.old room.new found result }
 {
-    edits::judged_list(t, old, edits, put, room, found)
+    let n = found?;
+    if !edits_right(t, edits, put, n) {
+        return Err(Refusal::Text);
+    }
+    Ok(make_list(old, edits, put, room))
 }

@@ -356,25 +356,6 @@ pub fn make_list(old: &[u32], edits: &[u32], put: &[u32], room: &mut [u32]) -> u
 
 // Judges the edits of an old tree, of which `found` says how many tokens it has, and makes their reading list in the room: how many words it
 // has. A refusal found before is handed on.
-pub fn judged_list<E: AsEdit>(
-    t: &[u8],
-    old: &[u32],
-    edits: &[E],
-    put: &[u32],
-    room: &mut [u32],
-    found: Result<usize, Refusal>,
-) -> Result<usize, Refusal>
-    requires { IfOk found (λ n. Tokens t.now old.now room.old n) }
-    ensures { Lists t.now old.now (words_of E.stands_for edits.now) put.now room.old room.new found result }
-{
-    let n = found?;
-    if !in_order(t, edits, put, n) {
-        return Err(Refusal::Text);
-    }
-    Ok(make_list_of(old, edits, put, room))
-}
-
-// The same of edits that are lent as a row of words.
 pub fn list_words(
     t: &[u8],
     old: &[u32],
@@ -386,10 +367,9 @@ pub fn list_words(
     requires { IfOk found (λ n. Tokens t.now old.now room.old n) }
     ensures { Lists t.now old.now edits.now put.now room.old room.new found result }
 {
-    let (records, part) = edits.as_chunks::<3>();
-    if part.is_empty() {
-        judged_list(t, old, records, put, room, found)
-    } else {
-        found.and(Err(Refusal::Text))
+    let n = found?;
+    if !edits_right(t, edits, put, n) {
+        return Err(Refusal::Text);
     }
+    Ok(make_list(old, edits, put, room))
 }
