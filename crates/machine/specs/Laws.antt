@@ -1,6 +1,6 @@
 -- Laws of the room: what one record more leaves standing, and that the room then holds one piece more.
 use Rattle.std.specs.Prelude.{◌≡◌, refl, List, [], ◌∷◌, ◌++◌, ℕ, suc, ◌+◌, ◌*◌, ◌≤◌, ◌<◌, length, get_or, take, drop, set}
-use Rattle.std.proofs.Common.{sym, ap, ◌∙◌, append_assoc, append-nil, arith, length-append, length-set, take_at, drop-set-lt, get_or-set_same, get_or-set_other, length-take-le, get_or-take, get_or-append-add}
+use Rattle.std.proofs.Common.{sym, ap, ◌∙◌, append_assoc, append-nil, arith, length-append, length-set, take_at, take-take, drop-set-lt, get_or-set_same, get_or-set_other, length-take-le, get_or-take, get_or-append-add}
 use Rattle.std.proofs.lemmas.List.Edits.{sets-eq}
 use Rattle.std.proofs.lemmas.List.{take-set-le}
 use Rattle.definitions.specs.Tree.{Tok, ∅, size}
@@ -54,6 +54,15 @@ top_state (over x h) = x
 pub states_stand : {r r' : List ℕ} {σ : Stack} → ((j : ℕ) → states_at ≤ j → j ≤ states_at + held σ → get_or r' j 0 ≡ get_or r j 0) → States r σ → States r' σ
 states_stand k (base x) = base (k states_at (omega arith) (omega arith) ∙ x)
 states_stand k (over {σ = σ} {s = s} {t = t} x h) = over {σ = σ} {s = s} {t = t} (k _ (omega arith) (omega arith) ∙ x) (states_stand (λ j a b. k j a (omega arith)) h)
+
+-- the words up to the states' end are all that holds a stack
+pub holds_stand : {r r' : List ℕ} {n : ℕ} {σ : Stack} → n ≤ 2048 → take states_end r' ≡ take states_end r → Holds r n σ → Holds r' n σ
+holds_stand {r} {r'} {n} l e h =
+    record {
+      many = h.many;
+      states = states_stand (λ j a b. sym (get_or-take states_end r' j 0 (omega (arith, h.many))) ∙ ap (λ (k : List ℕ). get_or k j 0) e ∙ get_or-take states_end r j 0 (omega (arith, h.many))) h.states;
+      records = sym (take-take (3 * n) states_end r' (omega arith)) ∙ ap (take (3 * n)) e ∙ take-take (3 * n) states_end r (omega arith) ∙ h.records;
+    }
 
 module _ (r : List ℕ) (n s a b c : ℕ) where
   abbrev r1 : List ℕ

@@ -4,4 +4,5 @@ pub mod Lookups
 pub mod Laws
 pub mod Back
 pub mod Steps
+pub mod Lent
 pub mod Wiped

@@ -212,9 +212,8 @@ pub fn take(
     }
 }
 
-// A token next, by its terminal and its identity, or the end mark, whose terminal is 0. The action is looked up first, then the room
-// is judged.
-pub fn plain(
+// The turn of what stands next, over the first words of a room. The action is looked up first, then the room is judged.
+fn turn_in(
     t: &[u8],
     room: &mut [u32; ROOM],
     n: usize,
@@ -237,6 +236,20 @@ pub fn plain(
         }
         act => take(room, n, act, kind, number),
     }
+}
+
+// A token next, by its terminal and its identity, or the end mark, whose terminal is 0. The action is looked up first, then the room
+// is judged.
+pub fn plain(t: &[u8], room: &mut [u32], n: usize, kind: u32, number: u32) -> Result<Move, Stuck>
+    requires { Layout t.now × (16384 ≤ length room.old) × (n ≤ 2048) × ((σ : Stack) × Holds room.old n σ) }
+    ensures did { (σ : Stack)
+        → Holds room.old n σ
+        → (f : Row)
+        → Stands f kind number
+        → Did room.new n σ f kind number (turn (table_of t.now) (2048 - n) σ f) result }
+    ensures room_unchanged { drop states_end room.new ≡ drop states_end room.old }
+{
+    turn_in(t, room.first_chunk_mut().unwrap(), n, kind, number)
 }
 
 // ---- the room handed back

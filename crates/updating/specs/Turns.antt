@@ -1,8 +1,8 @@
 -- What a turn of the code says of the definitions' turn: the list and the stack before it and after it.
-use Rattle.std.specs.Prelude.{◌≡◌, refl, true, false, Some, None, Result, Ok, Err, List, ℕ, zero, suc, ◌+◌, ◌-◌, ◌*◌, ◌≤◌, ◌<◌, length, get_or, take, drop}
+use Rattle.std.specs.Prelude.{◌≡◌, refl, true, false, Some, None, Result, Ok, Err, List, ℕ, zero, suc, ◌+◌, ◌-◌, ◌≤◌, ◌<◌, length, get_or, take, drop}
 use Rattle.std.specs.Prelude as Prelude
 use Rattle.std.specs.Option.{is_some}
-use Rattle.std.proofs.Common.{sym, ap, ◌∙◌, subst, arith, get_or-drop, get_or-take, take-take, drop-drop}
+use Rattle.std.proofs.Common.{sym, ap, ◌∙◌, subst, arith, get_or-drop, drop-drop}
 use Rattle.std.proofs.Math.Option.{Option, some}
 use Rattle.std.proofs.Math.Decide.{dec_le}
 use Rattle.definitions.specs.Sheet.{T}
@@ -17,7 +17,7 @@ use Rattle.theory.specs.Machine.Rows.{toks-length}
 use Rattle.theory.specs.Machine.Update.{yield-left}
 use Rattle.machine.specs.Lookups.{goto_is}
 use Rattle.machine.specs.Room.{states_end, Holds}
-use Rattle.machine.specs.Laws.{states_stand}
+use Rattle.machine.specs.Laws.{holds_stand}
 use Rattle.machine.specs.declared.Stuck.{Stuck}
 use Rattle.machine.specs.Back.{stuck_of, Landed, Lands}
 use Rattle.tree.specs.Shaped as Rows
@@ -53,12 +53,7 @@ list_stands {r = r} {r' = r'} e L =
     }
 
 pub stack_stands : {r r' : List ℕ} {n : ℕ} {σ : Stack} → n ≤ 2048 → take list_at r' ≡ take list_at r → Holds r n σ → Holds r' n σ
-stack_stands {r} {r'} {n} l e h =
-    record {
-      many = h.many;
-      states = states_stand (λ j a b. sym (get_or-take list_at r' j 0 (omega (arith, h.many))) ∙ ap (λ (k : List ℕ). get_or k j 0) e ∙ get_or-take list_at r j 0 (omega (arith, h.many))) h.states;
-      records = sym (take-take (3 * n) list_at r' (omega arith)) ∙ ap (take (3 * n)) e ∙ take-take (3 * n) list_at r (omega arith) ∙ h.records;
-    }
+stack_stands = holds_stand
 
 pub counts_stand : (old r r' : List ℕ) → drop tokens_at r' ≡ drop tokens_at r → Counted old r → Counted old r'
 counts_stand old r r' e C j h = sym (get_or-drop tokens_at r' j 0) ∙ ap (λ (l : List ℕ). get_or l j 0) e ∙ get_or-drop tokens_at r j 0 ∙ C j h

@@ -1,54 +1,29 @@
--- `machine::plain` meets its contract: each action of the table leads to the turn that the definitions have for it. Assumes nothing.
-use Rattle.std.proofs.Common.{rules, ℕ, ◌≡◌, refl, sym, ◌∙◌, Err}
-use Rattle.definitions.specs.Table.{Act, red, table_of}
-use Rattle.machine.specs.declared.Act as Code
-use Rattle.machine.specs.declared.Act.TheVariants.{Error, Accept, Shift, Reduce}
-use Rattle.definitions.specs.Reading.{Stack, top}
-use Rattle.theory.specs.Table.Transitions.{red_prod}
-use Rattle.machine.specs.declared.Stuck.TheVariants.{NoGoto}
-use Rattle.machine.specs.Room.{Holds}
-use Rattle.machine.specs.Lookups.{act_is}
-use Rattle.machine.specs.Steps.{full_reduce, reduces, lands}
+-- `machine::plain` meets its contract: the first words of the room are lent on. Assumes nothing.
+use Rattle.std.proofs.Common.{◌≡◌, ap, ◌∙◌, arith, length, take, drop, length-drop, length-take-le}
+use Rattle.definitions.specs.Table.{table_of}
+use Rattle.definitions.specs.Moves.{turn}
+use Rattle.machine.specs.Room.{states_end}
+use Rattle.machine.specs.Lent.{holds_first, rest_back, did_back}
 use Rattle.machine.proofs.plain.Goals as goal
-use Rattle.machine.proofs.plain.Goals.{After-act_of}
+use Rattle.machine.proofs.plain.Goals.{After-unwrap}
 
--- the action that is found
-seen : (c : After-act_of) (σ : Stack) {x : Act} → let a = c.args in Holds a.room.now a.n σ → x ≡ (table_of a.t.now).act c.top.result a.kind → x ≡ (table_of a.t.now).act (top σ) a.kind
-seen c σ h e = rw (← c.top.ensures σ h) e
+-- the words that are lent on
+first : (c : After-unwrap) → c.unwrap.result.now ≡ take 16384 c.args.room.now
+first c = let w = rw c.unwrap.ensures at c.first_chunk_mut.ensures.cases in w.same
 
--- an action that is no reduction
-other : (a : Code.Act) → ((p : ℕ) → a ≡ Reduce p → ⊥) → (p : ℕ) → act_is a ≡ red p → ⊥
-other Error k p e = absurd (cc)
-other Accept k p e = absurd (cc)
-other (Shift s) k p e = absurd (cc)
-other (Reduce q) k p e = k q refl
-
-pub reduce-requires : goal.reduce-requires
-reduce-requires c =
+pub turn_in-requires : goal.turn_in-requires
+turn_in-requires c =
     let p = c.requires in
-    let H = p.2 in
-    (p.0, c.if-n-ge-NODES.false, red_prod _ p.0 _ _ _ (sym c.in-Reduce.ensures), H)
+    (p.0, p.2, (p.3.0, holds_first (first (goal.at.turn_in-requires c).After-unwrap) p.2 p.3.1))
 
-pub returns-in_err-reduce-in-Reduce-2-clause-did : goal.returns-in_err-reduce-in-Reduce-2-clause-did
-returns-in_err-reduce-in-Reduce-2-clause-did c σ h f N =
+pub returns : goal.returns
+returns c =
     let a = c.args in
-    let G = table_of a.t.now in
-    let l = c.in_err-reduce-in-Reduce-2.ensures.lands σ h f in
-    let e : c.from_residual.result ≡ Err NoGoto = let q = l.0 in search rules in
-    rw e (reduces G a.n σ N (seen (goal.at.returns-in_err-reduce-in-Reduce-2-clause-did c).After-act_of σ h c.in-Reduce.ensures) refl c.if-n-ge-NODES.false ∙ l.1)
-
-pub returns-in_ok-reduce-in-Reduce-2-clause-did : goal.returns-in_ok-reduce-in-Reduce-2-clause-did
-returns-in_ok-reduce-in-Reduce-2-clause-did c σ h f N =
-    let a = c.args in
-    let s = seen (goal.at.returns-in_ok-reduce-in-Reduce-2-clause-did c).After-act_of σ h c.in-Reduce.ensures in
-    (lands (table_of a.t.now) a.n σ N s refl c.if-n-ge-NODES.false (c.in_ok-reduce-in-Reduce-2.ensures.lands σ h f), c.if-n-ge-NODES.false)
-
-pub returns-in-Reduce-clause-did : goal.returns-in-Reduce-clause-did
-returns-in-Reduce-clause-did c σ h f N =
-    let a = c.args in
-    full_reduce (table_of a.t.now) a.n σ N (seen (goal.at.returns-in-Reduce-clause-did c).After-act_of σ h c.in-Reduce.ensures) refl c.if-n-ge-NODES.true
-
-pub returns-in_default-clause-did : goal.returns-in_default-clause-did
-returns-in_default-clause-did c σ h f N =
-    let a = c.args in
-    c.take.ensures.takes a.t.now σ f h N (seen (goal.at.returns-in_default-clause-did c).After-act_of σ h c.act_of.ensures) (other c.act_of.result c.in_default.not-Reduce)
+    let t = c.turn_in in
+    let e = first (goal.at.returns c).After-unwrap in
+    let l = c.requires.1 in
+    let u = t.ensures.room_unchanged ∙ ap (drop states_end) e in
+    let n : length t.new.room ≡ 16384 = omega (arith, ap length u, length-drop states_end t.new.room, length-drop states_end (take 16384 a.room.now), length-take-le 16384 a.room.now l) in record {
+      did = λ σ h f N. did_back t.new.room a.room.now n c.requires.2 σ f a.kind a.number (turn (table_of a.t.now) _ σ f) t.result (t.ensures.did σ (holds_first e c.requires.2 h) f N);
+      room_unchanged = rest_back t.new.room a.room.now l u;
+    }
