@@ -102,12 +102,12 @@ module _ {t : List ℕ} {s at n : ℕ} (l : Lies t s at n) (i : ℕ) (h : i < n)
       let z = (empty_is (ahead t s i)).0 (λ a k. subst (Goes t s) r.is (f.moves a (known a k) k r.inner).0 e) in
       let o = some-ahead in omega arith)
 
-  pub three_goes : {b : Bool} {x u p d y : ℕ} → After t s i x → u < S t
+  pub three_goes : {b : Bool} {x u p d y : ℕ} → After t s i x → (u ≡ 255 → ⊥)
       → u ≡ target t s x → p ≡ prod t s i → d ≡ dot t s i → y ≡ ahead t s i → Says b (Covers t u p (d + 1) y) → Says b (Condition3At t s i)
   three_goes r g eu ep ed ey z = says_as z
       (λ f. record {
         moves = λ a ha k m. rw r.is (
-          (λ q. let m = l.laid.head.states.1 in omega arith),
+          (λ q. g (eu ∙ q)),
           (let w = f a (subst⁻¹ (λ (y : ℕ). Holds y a) ey k) in rw (eu, ep, ed) at w),
         );
       })

@@ -17,17 +17,16 @@ pub record Zero (t : List ℕ) (s q i a : ℕ) : Type 0 where
   pub item : IsItem t s i q 0
   pub looks : Holds (ahead t s i) a
 
+pub zero_set : {t : List ℕ} {s p i d y : ℕ} → IsItem t s i p d → d ≡ 0 → y ≡ ahead t s i → Exactly y (Zero t s p i)
+zero_set e z f = record {
+  holds = λ a. (
+    (λ h. record { item = record { production = e.production; place = sym z ∙ e.place }; looks = subst (λ (y : ℕ). Holds y a) f h }),
+    (λ r. subst⁻¹ (λ (y : ℕ). Holds y a) f r.looks),
+  );
+}
+
 pub zero_in : {t : List ℕ} {s p i d : ℕ} (y : Terminals) → p < 200 → IsItem t s i p d → d ≡ 0 → y.bits ≡ ahead t s i → Puts 200 (Zero t s) i (Some (p, y))
-zero_in y h e z f = (
-  h,
-  record {
-    holds = λ a. (
-      (λ h. record { item = record { production = e.production; place = sym z ∙ e.place }; looks = subst (λ (y : ℕ). Holds y a) f h }),
-      (λ r. subst⁻¹ (λ (y : ℕ). Holds y a) f r.looks),
-    );
-  },
-  λ q a r. r.item.production ∙ sym e.production,
-)
+zero_in y h e z f = (h, zero_set e z f, λ q a r. r.item.production ∙ sym e.production)
 
 pub zero_out : {t : List ℕ} {s i d : ℕ} → d ≡ dot t s i → (d ≡ 0 → ⊥) → Puts 200 (Zero t s) i None
 zero_out e g q a r = g (e ∙ sym r.item.place)
