@@ -7,11 +7,12 @@ use Rattle.definitions.specs.Grammar.{InFirst}
 use Rattle.definitions.specs.States.{Holds, In, Condition2}
 use Rattle.theory.specs.Check.Says.{Says, says_as}
 use Rattle.theory.specs.Check.ItemLaws.{with_in}
-use Rattle.terminals.specs.Members.{Within, held_below}
+use Rattle.terminals.specs.Members.{Within, empty_is, held_below}
 use Rattle.terminals.specs.declared.Terminals.{Terminals}
 use Rattle.grammar.specs.First.{FirstOf}
 use Rattle.states.specs.Places.{Lies, listed}
-use Rattle.states.specs.Gathering.{Exactly, Among, AfterNonterminal, nonterminal_one, entry, Puts}
+use Rattle.states.specs.Items.{After}
+use Rattle.states.specs.Gathering.{Exactly, Among, AfterNonterminal, nonterminal_one, small_nonterminal, entry, Puts}
 use Rattle.states.specs.Zeros.{Zeros}
 
 -- condition 2 at s
@@ -44,24 +45,27 @@ pub record Met (t : List ℕ) (s q : ℕ) : Type 0 where
 pub need_none : {t : List ℕ} {s i : ℕ} → ((m : ℕ) → AfterNonterminal t s i m → ⊥) → Puts 64 (Need t s) i None
 need_none f m b n = f m n.after
 
-module _ {t : List ℕ} {s at n : ℕ} (l : Lies t s at n) (i : ℕ) (h : i < n) {m : ℕ} (r : AfterNonterminal t s i m) where
-  -- what FIRST is asked of
-  pub need_asks : {p d y : ℕ} → p ≡ prod t s i → d ≡ dot t s i → y ≡ ahead t s i → ((p < P t) × (d + 1 ≤ len t p)) × ((1 ≤ y) × (y < 2 ^ T t))
-  need_asks {p} {d} {y} e f o =
+module _ {t : List ℕ} {s at n : ℕ} (l : Lies t s at n) (i : ℕ) (h : i < n) where
+  -- what FIRST is asked of, whatever stands after the dot
+  pub need_asks : {x : ℕ} → After t s i x → {p d y : ℕ} → p ≡ prod t s i → d ≡ dot t s i → y ≡ ahead t s i → ((p < P t) × (d + 1 ≤ len t p)) × ((1 ≤ y) × (y < 2 ^ T t))
+  need_asks r {p} {d} {y} e f o =
       let it = (l.laid.states s l.state).items i (listed l i h) in
-      let a = r.after.inner in
+      let a = r.inner in
       rw (e, f, o) ((it.named, omega arith), (it.full, it.known))
 
-  pub need_some : {p d y : ℕ} (z : Terminals) → m < 64 → p ≡ prod t s i → d ≡ dot t s i → y ≡ ahead t s i → FirstOf t p (d + 1) y z.bits → Puts 64 (Need t s) i (Some (m, z))
-  need_some {p} {d} {y} z k e f o q = (k, told (rw (e, f, o) at q), λ k b n. nonterminal_one r n.after)
-    where
-      told : FirstOf t (prod t s i) (dot t s i + 1) (ahead t s i) z.bits → Exactly z.bits (Need t s m i)
-      told q = record {
-        holds = λ b. (
-          (λ h. let w = q.some b h in record { after = r; known = w.0; first = w.1 }),
-          (λ n. q.each n.first.0 b n.first.1 n.known n.first.2),
-        );
-      }
+  module _ {m : ℕ} (r : AfterNonterminal t s i m) where
+    pub need_some : {p d y : ℕ} (z : Terminals) → p ≡ prod t s i → d ≡ dot t s i → y ≡ ahead t s i → FirstOf t p (d + 1) y z.bits → Puts 64 (Need t s) i (Some (m, z))
+    need_some {p} {d} {y} z e f o q =
+        let k = small_nonterminal l i h r.after (omega arith) in
+        (omega arith, told (rw (e, f, o) at q), λ k b n. nonterminal_one r n.after)
+      where
+        told : FirstOf t (prod t s i) (dot t s i + 1) (ahead t s i) z.bits → Exactly z.bits (Need t s m i)
+        told q = record {
+          holds = λ b. (
+            (λ h. let w = q.some b h in record { after = r; known = w.0; first = w.1 }),
+            (λ n. q.each n.first.0 b n.first.1 n.known n.first.2),
+          );
+        }
 
 -- ---- one production, every production
 
@@ -81,6 +85,10 @@ module _ (t : List ℕ) (laid : Layout t) (s : ℕ) (state : s < S t) where
       (λ p d. d < len t p → 128 ≤ symbol t p d → (q b : ℕ) → q < P t → 128 + left t q ≡ symbol t p d → b < T t → InFirst t p (d + 1) a b → In t s q 0 b)
       (λ i l h hd hs q b hq e hb w. (f q hq).gives b (i, l, record { after = record { after = record { inner = hd; is = sym e } }; known = hb; first = (a, h, w) }))
       p d r
+
+  -- of a state with no nonterminal after a dot nothing is needed
+  pub met_none : {x : ℕ} → Exactly x (Among (AfterNonterminal t s) (count t s)) → x ≡ 0 → Condition2At t s
+  met_none {x} f e = met_all (λ q hq. record { gives = λ b r. absurd ((empty_is x).1 e _ ((f.holds _).1 (r.0, r.1, r.2.after))) })
 
   pub all_met : Condition2At t s → (q : ℕ) → q < P t → Met t s q
   unfolding Condition2At

@@ -50,6 +50,10 @@ fn met(state: &State<'_>, q: usize, needs: &[Terminals; 64], zeros: &[Terminals;
 pub fn closed(state: &State<'_>) -> bool
     ensures { Says result (Condition2At (sheet state.now) state.now.s) }
 {
+    // without a nonterminal after a dot nothing is needed, and the arrays are not made
+    if state.nonterminals() == Terminals::EMPTY {
+        return true;
+    }
     let needs = needs_of(state);
     let zeros = state.zeros();
     (0..state.states.firsts.grammar.count()).all(|q| met(state, q, &needs, &zeros))
