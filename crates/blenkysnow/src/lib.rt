@@ -54,7 +54,9 @@ pub fn text_right(t: &[u8], codes: &[u32], first: u32) -> bool
     requires { Layout t.now }
     ensures { Says result (TextInOrder t.now codes.now first) }
 {
-    first != 0 && codes.len() <= 2048 && edits::codes_known(t, codes)
+    let numbered = first != 0;
+    let few = codes.len() <= 2048;
+    numbered && few && edits::codes_known(t, codes)
 }
 
 // ---- reading afresh

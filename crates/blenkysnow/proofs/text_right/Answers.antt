@@ -4,5 +4,5 @@ use Rattle.theory.specs.Check.Says.{says_as}
 use Rattle.blenkysnow.specs.Text.{in_order, knowns}
 use Rattle.blenkysnow.proofs.text_right.Goals as goal
 
-pub returns-then-codes-le2048 : goal.returns-then-codes-le2048
-returns-then-codes-le2048 c = let p = c.if-codes-le2048.true in says_as c.codes_known.ensures (in_order _ _ _ (omega (arith, p.0)) p.1) (knowns _ _ _)
+pub returns-then-few : goal.returns-then-few
+returns-then-few c = let p = c.if-few.true in says_as c.codes_known.ensures (in_order _ _ _ (omega (arith, p.0)) (omega (arith, p.1))) (knowns _ _ _)
