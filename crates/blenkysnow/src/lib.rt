@@ -176,3 +176,6 @@ pub fn update_edits<'a>(
     let m = edit_lists::list_edits(table, old, edits, put, room, n);
     finish(table, old, put, tree, room, m)
 }
+
+#[cfg(test)]
+mod tests;

@@ -373,3 +373,24 @@ pub fn list_words(
     }
     Ok(make_list(old, edits, put, room))
 }
+
+// The same of edits lent as anything that says which edit it stands for, for a caller with a type of its own; the calls of this library lend
+// words or structs.
+pub fn judged_list<E: AsEdit>(
+    t: &[u8],
+    old: &[u32],
+    edits: &[E],
+    put: &[u32],
+    room: &mut [u32],
+    found: Result<usize, Refusal>,
+) -> Result<usize, Refusal>
+    requires { IfOk found (λ n. Tokens t.now old.now room.old n) }
+    ensures { Lists t.now old.now (words_of E.stands_for edits.now) put.now room.old room.new found result }
+{
+    let n = found?;
+    if in_order(t, edits, put, n) {
+        Ok(make_list_of(old, edits, put, room))
+    } else {
+        Err(Refusal::Text)
+    }
+}
